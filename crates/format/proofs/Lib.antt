@@ -1,0 +1,4 @@
+pub mod Rules
+pub mod VarintLaws
+pub mod NumbersLaws
+pub mod PackedLaws

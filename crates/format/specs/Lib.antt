@@ -1,0 +1,16 @@
+pub mod Base
+pub mod Category
+pub mod Varint
+pub mod Numbers
+pub mod Packed
+pub mod Difflist
+pub mod PairCode
+pub mod Track
+pub mod Body
+pub mod Variant
+pub mod Layout
+pub mod Header
+pub mod File
+pub mod Writer
+pub mod Reply
+pub mod Examples

@@ -1,0 +1,38 @@
+-- The two variant numbers, and the anchor. K is the number of variants to a block: 65,536, and a parameter so that small blocks can be tried.
+-- Assumes nothing.
+use Prim.Native.Nat.{ℕ, zero, suc, _+_, _*_, _/_, _%_}
+use mathlib.Core.List.{List, []}
+use lib.ListN.{getD, drop}
+use Rattle.format.specs.declared.FileVariant.{FileVariant}
+use Rattle.format.specs.declared.BlockVariant.{BlockVariant}
+use Rattle.format.specs.Base.{pick}
+use Rattle.format.specs.Track.{leans}
+
+-- 01, The header: "A variant's number in the file and its number within its block are two counts, and the second restarts at 0 on variant 65,536; no
+-- interface lets one stand for the other." These functions alone turn one into the other.
+abbrev pub file-variant : ℕ → FileVariant
+file-variant v = record { 0 = v }
+
+abbrev pub block-variant : ℕ → BlockVariant
+block-variant i = record { 0 = i }
+
+abbrev pub next-variant : FileVariant → FileVariant
+next-variant v = file-variant (suc (v .0))
+
+abbrev pub block-of : ℕ → FileVariant → ℕ
+block-of K v = v .0 / K
+
+abbrev pub in-block : ℕ → FileVariant → BlockVariant
+in-block K v = block-variant (v .0 % K)
+
+abbrev pub in-file : ℕ → ℕ → BlockVariant → FileVariant
+in-file K block i = file-variant (block * K + i .0)
+
+-- 01, Categories and kinds: "the anchor, which is the nearest earlier variant in the same block whose kind is neither 2 nor 3"
+-- among the first i of a block's types, from the last of them back
+unfoldable pub nearest : List ℕ → ℕ → BlockVariant
+nearest types zero = block-variant 0
+nearest types (suc i) = pick (leans (getD types i 0)) (nearest types i) (block-variant i)
+
+unfoldable pub anchor : ℕ → List ℕ → FileVariant → FileVariant
+anchor K types v = in-file K (block-of K v) (nearest (drop (block-of K v * K) types) (in-block K v .0))

@@ -1,0 +1,62 @@
+-- The writer: the track that a kind and a pair code give for a row of categories.
+-- Assumes nothing.
+use Prim.Native.Nat.{ℕ, zero, suc}
+use mathlib.Core.Bool.{Bool, true, false}
+use mathlib.Core.List.{List, [], _∷_, map}
+use lib.ListN.{length, replicate}
+use lib.Dec.{eqb, ltb, leb}
+use Rattle.format.specs.Base.{pick, Out, ok, refuse, bind, map-out, need}
+use Rattle.format.specs.Category.{exchange-all}
+use Rattle.format.specs.Difflist.{Entry}
+use Rattle.format.specs.PairCode.{PairCode, pair, category-of, Coded, coded, not-coded, code-numbered}
+use Rattle.format.specs.Track.{Kind, array, paired, against-anchor, against-category, no-kind, kind, leans, Track, plain, one-bit, leaning, sparse, track-bytes}
+use Rattle.format.specs.Layout.{from-1-to, most-samples}
+
+-- the samples, from sample i on, whose category is not the base's
+abbrev pub unless : Bool → Entry → List Entry → List Entry
+unless true e es = es
+unless false e es = e ∷ es
+
+unfoldable pub differences : ℕ → List ℕ → List ℕ → List Entry
+differences i [] row = []
+differences i (b ∷ base) [] = []
+differences i (b ∷ base) (category ∷ row) = unless (eqb category b) (record { sample = i; value = category }) (differences (suc i) base row)
+
+-- 01, Categories and kinds: "a list of pairs for samples in the other two categories ... A listed sample's bit may be either; the writer clears it."
+abbrev pub bits-for : PairCode → List ℕ → List Bool
+bits-for c categories = map (λ (category : ℕ). eqb category (pair c .higher)) categories
+
+abbrev pub pair-track : List ℕ → Coded → Out Track
+pair-track categories (coded c) =
+    ok (one-bit c (bits-for c categories) (differences 0 (map (category-of c) (bits-for c categories)) categories)) []
+pair-track categories not-coded = refuse 19 0
+
+-- 01, Replies: 19, "kind or pair code not allowed"; The writer: "a pair code (0 unless kind 1)". Kind 3 lists the categories before inversion.
+unfoldable pub kind-track : Kind → ℕ → List ℕ → List ℕ → Out Track
+kind-track array code lent categories = need (eqb code 0) 19 0 (ok (plain categories) [])
+kind-track paired code lent categories = pair-track categories (code-numbered code)
+kind-track (against-anchor inverted) code lent categories =
+    need (eqb code 0) 19 0 (ok (leaning inverted (differences 0 lent (exchange-all inverted categories))) [])
+kind-track (against-category base) code lent categories =
+    need (eqb code 0) 19 0 (ok (sparse base (differences 0 (replicate (length categories) base) categories)) [])
+kind-track no-kind code lent categories = refuse 19 0
+
+abbrev pub track-for : ℕ → ℕ → List ℕ → List ℕ → Out Track
+track-for number code lent categories = kind-track (kind number) code lent categories
+
+-- 01: "20 (categories, then anchor; the index counts within its own buffer)"
+unfoldable pub need-categories : {A : Type 0} → ℕ → List ℕ → Out A → Out A
+need-categories i [] next = next
+need-categories i (category ∷ categories) next = need (ltb category 4) 20 i (need-categories (suc i) categories next)
+
+-- 01: "Order: 4 with place 0 (category count outside 1 to 65,536), 19, 10 (anchor not as long as the categories in kinds 2 and 3, or not empty in
+-- another), 20 ..., 10 (output shorter than the record)." room: the output's length.
+unfoldable pub write-record : List ℕ → ℕ → ℕ → List ℕ → ℕ → Out (List ℕ)
+write-record categories number code lent room =
+    need (from-1-to most-samples (length categories)) 4 0
+    (bind (track-for number code lent categories) (λ track left.
+    need (eqb (length lent) (pick (leans number) (length categories) 0)) 10 0
+    (need-categories 0 categories
+    (need-categories 0 lent
+    (need (leb (length (track-bytes (length categories) track)) room) 10 0
+    (ok (track-bytes (length categories) track) []))))))
