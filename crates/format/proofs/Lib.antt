@@ -5,3 +5,5 @@ pub mod PackedLaws
 pub mod RowLaws
 pub mod CategoryLaws
 pub mod WriterLaws
+pub mod PairLaws
+pub mod WriteBackLaws

@@ -5,47 +5,55 @@ use Prim.Native.Nat.{ℕ, zero, suc, _+_, _≤_, _<_, zero-le}
 use native.Mathlib.Nat.{le-refl, add-zero, zero-add}
 use mathlib.Core.Bool.{Bool, true, false, not}
 use mathlib.Core.List.{List, [], _∷_, _++_, append-assoc}
-use lib.ListN.{length, getD, set, length-append}
+use lib.ListN.{length, getD, set, replicate, length-append}
 use lib.Seq.{set-at}
 use lib.Dec.{eqb, ltb}
 use native.Mathlib.Omega.{arith}
 use borrow.Author.Tests.{eq-eqb, ne-eqb, eqb-true, eqb-false}
 use Rattle.format.specs.Base.{pick, Below}
 use Rattle.format.specs.Difflist.{Entry, Rule, Good, Rising}
-use Rattle.format.specs.Track.{apply, rule}
+use Rattle.format.specs.Track.{put, apply, rule}
 use Rattle.format.specs.Writer.{unless, differences}
 use Rattle.format.proofs.Rules.{by-test}
 
--- ---- sample by sample: what `apply` does to a list that rises
+pub getD-replicate : (n b i d : ℕ) → i < n → getD (replicate n b) i d ≡ b
+getD-replicate zero b i d l = absurd (omega arith)
+getD-replicate (suc n) b zero d l = refl
+getD-replicate (suc n) b (suc i) d l = getD-replicate n b i d (omega arith)
 
--- the entry's value where its sample is i, else the base's; the entries that are left
-unfoldable pub patch : ℕ → List ℕ → List Entry → List ℕ
-patch i base [] = base
-patch i [] (e ∷ es) = []
-patch i (b ∷ base) (e ∷ es) = pick (eqb (e .sample) i) (e .value ∷ patch (suc i) base es) (b ∷ patch (suc i) base (e ∷ es))
+-- ---- sample by sample: what `put` does where the entries rise
+
+-- what f gives for the entry whose sample is i, else the base's; so for every sample from i on
+unfoldable pub patch : {A : Type 0} → (Entry → A) → ℕ → List A → List Entry → List A
+patch f i base [] = base
+patch f i [] (e ∷ es) = []
+patch f i (b ∷ base) (e ∷ es) = pick (eqb (e .sample) i) (f e ∷ patch f (suc i) base es) (b ∷ patch f (suc i) base (e ∷ es))
+
+abbrev pub patch-values : ℕ → List ℕ → List Entry → List ℕ
+patch-values i base es = patch (λ (e : Entry). e .value) i base es
 
 -- an entry that is not at i is after it
 pub rises-past : (u : Rule) (i : ℕ) (e : Entry) (es : List Entry) → Rising u i (e ∷ es) → eqb (e .sample) i ≡ false → Rising u (suc i) (e ∷ es)
 rises-past u i e es g t =
     (record { rises = omega (arith, eqb-false (e .sample) i t, g .0 .rises); inside = g .0 .inside; two-bits = g .0 .two-bits; allowed = g .0 .allowed }, g .1)
 
-pub apply-patch : (u : Rule) (i : ℕ) (done base : List ℕ) (es : List Entry) → length done ≡ i → u .samples ≤ i + length base → Rising u i es
-    → apply es (done ++ base) ≡ done ++ patch i base es
+pub put-patch : {A : Type 0} (f : Entry → A) (u : Rule) (i : ℕ) (done base : List A) (es : List Entry)
+    → length done ≡ i → u .samples ≤ i + length base → Rising u i es → put f es (done ++ base) ≡ done ++ patch f i base es
 unfolding patch
-apply-patch u i done base [] d m g = refl
-apply-patch u i done [] (e ∷ es) d m g = absurd (omega (arith, g .0 .rises, g .0 .inside))
-apply-patch u i done (b ∷ base) (e ∷ es) d m g =
-    by-test (λ (row : List ℕ). apply (e ∷ es) (done ++ (b ∷ base)) ≡ done ++ row) (eqb (e .sample) i)
+put-patch f u i done base [] d m g = refl
+put-patch f u i done [] (e ∷ es) d m g = absurd (omega (arith, g .0 .rises, g .0 .inside))
+put-patch f u i done (b ∷ base) (e ∷ es) d m g =
+    by-test (λ (row : List _). put f (e ∷ es) (done ++ (b ∷ base)) ≡ done ++ row) (eqb (e .sample) i)
     (λ t.
     let at : e .sample ≡ i = eqb-true (e .sample) i t in
-    ap (λ (row : List ℕ). apply es row) (set-at done b base (e .value) (e .sample) (d ∙ sym at) ∙ sym (append-assoc done (e .value ∷ []) base))
-    ∙ apply-patch u (suc i) (done ++ (e .value ∷ [])) base es (length-append done (e .value ∷ []) ∙ omega arith) (omega arith)
+    ap (put f es) (set-at done b base (f e) (e .sample) (d ∙ sym at) ∙ sym (append-assoc done (f e ∷ []) base))
+    ∙ put-patch f u (suc i) (done ++ (f e ∷ [])) base es (length-append done (f e ∷ []) ∙ omega arith) (omega arith)
     (subst (λ (s : ℕ). Rising u (suc s) es) at (g .1))
-    ∙ append-assoc done (e .value ∷ []) (patch (suc i) base es))
+    ∙ append-assoc done (f e ∷ []) (patch f (suc i) base es))
     (λ t.
-    ap (apply (e ∷ es)) (sym (append-assoc done (b ∷ []) base))
-    ∙ apply-patch u (suc i) (done ++ (b ∷ [])) base (e ∷ es) (length-append done (b ∷ []) ∙ omega arith) (omega arith) (rises-past u i e es g t)
-    ∙ append-assoc done (b ∷ []) (patch (suc i) base (e ∷ es)))
+    ap (put f (e ∷ es)) (sym (append-assoc done (b ∷ []) base))
+    ∙ put-patch f u (suc i) (done ++ (b ∷ [])) base (e ∷ es) (length-append done (b ∷ []) ∙ omega arith) (omega arith) (rises-past u i e es g t)
+    ∙ append-assoc done (b ∷ []) (patch f (suc i) base (e ∷ es)))
 
 -- ---- from a row to its list and back
 
@@ -100,7 +108,7 @@ need-not-later u i b base k j v l h = k (suc j) v (omega arith) (let e : suc i +
 
 -- a list comes back as the differences of its row
 pub differences-patch : (u : Rule) (i : ℕ) (base : List ℕ) (es : List Entry) → NeedNot u i base → u .samples ≤ i + length base → Rising u i es
-    → differences i base (patch i base es) ≡ es
+    → differences i base (patch-values i base es) ≡ es
 unfolding differences patch
 differences-patch u i [] [] k m g = refl
 differences-patch u i [] (e ∷ es) k m g = absurd (omega (arith, g .0 .rises, g .0 .inside))

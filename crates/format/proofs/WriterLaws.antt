@@ -17,19 +17,9 @@ use Rattle.format.specs.Track.{Kind, array, paired, against-anchor, agai
 use Rattle.format.specs.Writer.{differences, bits-for, pair-track, kind-track, track-for}
 use Rattle.format.proofs.Rules.{Holds, by-test, by-need}
 use Rattle.format.proofs.CategoryLaws.{exchange-all-twice, exchange-all-none, exchange-all-below, just-one-self}
-use Rattle.format.proofs.RowLaws.{differences-rise, apply-differences}
+use Rattle.format.proofs.RowLaws.{getD-replicate, differences-rise, apply-differences}
 
 -- ---- the base of each kind may be differed from
-
-getD-replicate : (n b i d : ℕ) → i < n → getD (replicate n b) i d ≡ b
-getD-replicate zero b i d l = absurd (omega arith)
-getD-replicate (suc n) b zero d l = refl
-getD-replicate (suc n) b (suc i) d l = getD-replicate n b i d (omega arith)
-
-getD-map-lt : (f : ℕ → ℕ) (xs : List ℕ) (i d e : ℕ) → i < length xs → getD (map f xs) i d ≡ f (getD xs i e)
-getD-map-lt f [] i d e l = absurd (omega arith)
-getD-map-lt f (x ∷ xs) zero d e l = refl
-getD-map-lt f (x ∷ xs) (suc i) d e l = getD-map-lt f xs i d e (omega arith)
 
 -- a category that is neither the higher of the pair nor the lower is off the pair; its bit is clear, and stands for the lower
 off-pair-if : (c : PairCode) (v : ℕ) → (v ≡ category-of c (eqb v (pair c .higher)) → ⊥) → not (in-pair c v) ≡ true
@@ -70,6 +60,7 @@ writes-pair lent categories c f =
     base-at c [] j l = absurd (omega arith)
     base-at c (x ∷ cs) zero l = refl
     base-at c (x ∷ cs) (suc j) l = base-at c cs j (omega arith)
+
     may : (c : PairCode) (cs : List ℕ) (j : ℕ) → j < length (map (category-of c) (bits-for c cs)) → (getD cs j 0 ≡ getD (map (category-of c) (bits-for c cs)) j 1 → ⊥)
         → off-pair c (0 + j) (getD cs j 0) ≡ true
     may c cs j l d =
@@ -87,9 +78,9 @@ writes-leaning inverted number lent categories q e f =
           (λ j l d. let z : 0 + j ≡ j = zero-add j in rw z (off (getD row j 0) (getD lent j 1) d)) (exchange-all-below inverted categories f) (omega arith);
       stands-for =
           ap (exchange-all inverted) (apply-differences 0 [] lent row refl count)
-              ∙ exchange-all-twice inverted inverted categories
-              ∙ ap (λ (b : Bool). exchange-all b categories) (just-one-self inverted)
-              ∙ exchange-all-none categories;
+          ∙ exchange-all-twice inverted inverted categories
+          ∙ ap (λ (b : Bool). exchange-all b categories) (just-one-self inverted)
+          ∙ exchange-all-none categories;
       whole = refl;
     }
 
@@ -101,8 +92,11 @@ writes-sparse base number lent categories q k f =
     let count : length row ≡ n = length-replicate n base in
     record {
       kind-is = q;
-      fits = (k, differences-rise n 0 (off-category base) row categories
-          (λ j l d. off (getD categories j 0) base (λ e. d (e ∙ sym (getD-replicate n base j 1 (omega arith))))) f (omega arith));
+      fits = (
+        k,
+        differences-rise n 0 (off-category base) row categories
+            (λ j l d. off (getD categories j 0) base (λ e. d (e ∙ sym (getD-replicate n base j 1 (omega arith))))) f (omega arith),
+      );
       stands-for = apply-differences 0 [] row categories refl (sym count);
       whole = refl;
     }

@@ -120,10 +120,13 @@ read-track end N anchor number bs = read-kind end N anchor (kind number) bs
 
 -- ---- the categories it stands for
 
--- each entry's value at its sample
+-- what f gives for each entry, at its sample; each entry's value at its sample
+abbrev pub put {ℓ} : {A : Type ℓ} → (Entry → A) → List Entry → List A → List A
+put f [] row = row
+put f (e ∷ es) row = put f es (set row (e .sample) (f e))
+
 abbrev pub apply : List Entry → List ℕ → List ℕ
-apply [] row = row
-apply (e ∷ es) row = apply es (set row (e .sample) (e .value))
+apply es row = put (λ (e : Entry). e .value) es row
 
 -- 01: "Kind 3: as kind 2, then 0 and 2 exchanged for all samples."
 abbrev pub track-categories : ℕ → List ℕ → Track → List ℕ

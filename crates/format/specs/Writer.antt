@@ -9,7 +9,7 @@ use Rattle.format.specs.Base.{pick, Out, ok, refuse, bind, map-out, need
 use Rattle.format.specs.Category.{exchange-all}
 use Rattle.format.specs.Difflist.{Entry}
 use Rattle.format.specs.PairCode.{PairCode, pair, category-of, Coded, coded, not-coded, code-numbered}
-use Rattle.format.specs.Track.{Kind, array, paired, against-anchor, against-category, no-kind, kind, leans, Track, plain, one-bit, leaning, sparse, track-bytes}
+use Rattle.format.specs.Track.{Kind, array, paired, against-anchor, against-category, no-kind, kind, leans, Track, plain, one-bit, leaning, sparse, track-bytes, put}
 use Rattle.format.specs.Layout.{from-1-to, most-samples}
 
 -- the samples, from sample i on, whose category is not the base's
@@ -60,3 +60,18 @@ write-record categories number code lent room =
     (need-categories 0 lent
     (need (leb (length (track-bytes (length categories) track)) room) 10 0
     (ok (track-bytes (length categories) track) []))))))
+
+-- ---- a record read and written again
+
+-- demand 2: "in its own kind and pair code", "the same bytes, except the bits that kind 1 holds for samples it also lists"
+abbrev pub track-code : Track → ℕ
+track-code (plain categories) = 0
+track-code (one-bit c bits es) = pair c .code
+track-code (leaning inverted es) = 0
+track-code (sparse category es) = 0
+
+abbrev pub cleared : Track → Track
+cleared (plain categories) = plain categories
+cleared (one-bit c bits es) = one-bit c (put (λ (e : Entry). false) es bits) es
+cleared (leaning inverted es) = leaning inverted es
+cleared (sparse category es) = sparse category es
