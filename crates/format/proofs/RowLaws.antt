@@ -1,125 +1,134 @@
--- A row of categories and the list of where it differs from another: each gives the other back.
+-- What a record stands for: a row of N categories. A record that does not lean has no use for an anchor.
 -- Assumes nothing.
-use mathlib.Core.Path.{_≡_, refl, sym, ap, ap₂, _∙_, subst}
-use Prim.Native.Nat.{ℕ, zero, suc, _+_, _≤_, _<_, zero-le}
-use native.Mathlib.Nat.{le-refl, add-zero, zero-add}
-use mathlib.Core.Bool.{Bool, true, false, not}
-use mathlib.Core.List.{List, [], _∷_, _++_, append-assoc}
-use lib.ListN.{length, getD, set, replicate, length-append}
-use lib.Seq.{set-at}
-use lib.Dec.{eqb, ltb}
+use mathlib.Core.Path.{_≡_, refl, sym, ap, _∙_}
+use Prim.Native.Nat.{ℕ, zero, suc, _≤_, _<_}
+use mathlib.Core.Bool.{Bool, true, false}
+use mathlib.Core.List.{List, [], _∷_, map}
+use lib.ListN.{length, set, replicate, length-map, length-set, length-replicate}
+use lib.Dec.{lit<}
 use native.Mathlib.Omega.{arith}
-use borrow.Author.Tests.{eq-eqb, ne-eqb, eqb-true, eqb-false}
-use Rattle.format.specs.Base.{pick, Below}
-use Rattle.format.specs.Difflist.{Entry, Rule, Good, Rising}
-use Rattle.format.specs.Track.{put, apply, rule}
-use Rattle.format.specs.Writer.{unless, differences}
+use Rattle.format.specs.Base.{Below, Out, bind}
+use Rattle.format.specs.Category.{exchange-all}
+use Rattle.format.specs.Difflist.{Entry, Rule, Rising}
+use Rattle.format.specs.PairCode.{PairCode, category-of}
+use Rattle.format.specs.Track.{Kind, array, paired, against-anchor, against-category, no-kind, kind, leans-kind, leans, Track, plain, one-bit, leaning, sparse, track-kind, off-pair, off-category, off-anchor, rule, Fits, read-kind, read-track, apply, track-categories}
+use Rattle.format.specs.Body.{Body, body-type, BodyFits, ended, read-body, body-categories}
+use Rattle.format.specs.File.{next-anchor}
 use Rattle.format.proofs.Rules.{by-test}
+use Rattle.format.proofs.CategoryLaws.{exchange-all-length, exchange-all-below}
+use Rattle.format.proofs.PairLaws.{category-of-below}
 
-pub getD-replicate : (n b i d : ℕ) → i < n → getD (replicate n b) i d ≡ b
-getD-replicate zero b i d l = absurd (omega arith)
-getD-replicate (suc n) b zero d l = refl
-getD-replicate (suc n) b (suc i) d l = getD-replicate n b i d (omega arith)
+-- true is not false
+never-both {ℓ} : {X : Type ℓ} {b : Bool} → b ≡ true → b ≡ false → X
+never-both p q = let z : _≡_ {A = ℕ} 0 1 = cc in absurd (omega arith)
 
--- ---- sample by sample: what `put` does where the entries rise
+-- ---- rows
 
--- what f gives for the entry whose sample is i, else the base's; so for every sample from i on
-unfoldable pub patch : {A : Type 0} → (Entry → A) → ℕ → List A → List Entry → List A
-patch f i base [] = base
-patch f i [] (e ∷ es) = []
-patch f i (b ∷ base) (e ∷ es) = pick (eqb (e .sample) i) (f e ∷ patch f (suc i) base es) (b ∷ patch f (suc i) base (e ∷ es))
+-- a row of N categories
+abbrev pub IsRow : ℕ → List ℕ → Type 0
+IsRow N row = (length row ≡ N) × Below 4 row
 
-abbrev pub patch-values : ℕ → List ℕ → List Entry → List ℕ
-patch-values i base es = patch (λ (e : Entry). e .value) i base es
+-- entries change no length
+pub apply-length : (es : List Entry) (row : List ℕ) → length (apply es row) ≡ length row
+apply-length [] row = refl
+apply-length (e ∷ es) row = apply-length es (set row (e .sample) (e .value)) ∙ length-set row (e .sample) (e .value)
 
--- an entry that is not at i is after it
-pub rises-past : (u : Rule) (i : ℕ) (e : Entry) (es : List Entry) → Rising u i (e ∷ es) → eqb (e .sample) i ≡ false → Rising u (suc i) (e ∷ es)
-rises-past u i e es g t =
-    (record { rises = omega (arith, eqb-false (e .sample) i t, g .0 .rises); inside = g .0 .inside; two-bits = g .0 .two-bits; allowed = g .0 .allowed }, g .1)
+-- a category set in a row of categories
+pub set-below : (m i value : ℕ) (row : List ℕ) → value < m → Below m row → Below m (set row i value)
+set-below m i value [] l h = tt
+set-below m zero value (x ∷ row) l h = (l, h .1)
+set-below m (suc i) value (x ∷ row) l h = (h .0, set-below m i value row l (h .1))
 
-pub put-patch : {A : Type 0} (f : Entry → A) (u : Rule) (i : ℕ) (done base : List A) (es : List Entry)
-    → length done ≡ i → u .samples ≤ i + length base → Rising u i es → put f es (done ++ base) ≡ done ++ patch f i base es
-unfolding patch
-put-patch f u i done base [] d m g = refl
-put-patch f u i done [] (e ∷ es) d m g = absurd (omega (arith, g .0 .rises, g .0 .inside))
-put-patch f u i done (b ∷ base) (e ∷ es) d m g =
-    by-test (λ (row : List _). put f (e ∷ es) (done ++ (b ∷ base)) ≡ done ++ row) (eqb (e .sample) i)
-    (λ t.
-    let at : e .sample ≡ i = eqb-true (e .sample) i t in
-    ap (put f es) (set-at done b base (f e) (e .sample) (d ∙ sym at) ∙ sym (append-assoc done (f e ∷ []) base))
-    ∙ put-patch f u (suc i) (done ++ (f e ∷ [])) base es (length-append done (f e ∷ []) ∙ omega arith) (omega arith)
-    (subst (λ (s : ℕ). Rising u (suc s) es) at (g .1))
-    ∙ append-assoc done (f e ∷ []) (patch f (suc i) base es))
-    (λ t.
-    ap (put f (e ∷ es)) (sym (append-assoc done (b ∷ []) base))
-    ∙ put-patch f u (suc i) (done ++ (b ∷ [])) base (e ∷ es) (length-append done (b ∷ []) ∙ omega arith) (omega arith) (rises-past u i e es g t)
-    ∙ append-assoc done (b ∷ []) (patch f (suc i) base (e ∷ es)))
+-- entries that obey leave categories
+pub apply-below : (held : Rule) (least : ℕ) (es : List Entry) (row : List ℕ) → Rising held least es → Below 4 row → Below 4 (apply es row)
+apply-below held least [] row g h = h
+apply-below held least (e ∷ es) row g h =
+    apply-below held (suc (e .sample)) es (set row (e .sample) (e .value)) (g .1) (set-below 4 (e .sample) (e .value) row (g .0 .two-bits) h)
 
--- ---- from a row to its list and back
+-- both at once
+pub apply-row : (held : Rule) (N : ℕ) (es : List Entry) (row : List ℕ) → Rising held 0 es → IsRow N row → IsRow N (apply es row)
+apply-row held N es row g h = (apply-length es row ∙ h .0, apply-below held 0 es row g (h .1))
 
-by-unless {κ} : (P : List Entry → Type κ) (t : Bool) (e : Entry) (es : List Entry) → (t ≡ true → P es) → (t ≡ false → P (e ∷ es)) → P (unless t e es)
-by-unless P true e es f g = f refl
-by-unless P false e es f g = g refl
+pair-below : (c : PairCode) (bits : List Bool) → Below 4 (map (category-of c) bits)
+pair-below c [] = tt
+pair-below c (b ∷ bits) = (category-of-below c b, pair-below c bits)
 
-rises-earlier : (u : Rule) (i : ℕ) (es : List Entry) → Rising u (suc i) es → Rising u i es
-rises-earlier u i [] g = tt
-rises-earlier u i (e ∷ es) g =
-    (record { rises = omega (arith, g .0 .rises); inside = g .0 .inside; two-bits = g .0 .two-bits; allowed = g .0 .allowed }, g .1)
+replicate-below : (m n value : ℕ) → value < m → Below m (replicate n value)
+replicate-below m zero value l = tt
+replicate-below m (suc n) value l = (l, replicate-below m n value l)
 
--- the differences of a row from the base are a list, if each may be held
-pub differences-rise : (N i : ℕ) (may : ℕ → ℕ → Bool) (base row : List ℕ)
-    → ((j : ℕ) → j < length base → (getD row j 0 ≡ getD base j 1 → ⊥) → may (i + j) (getD row j 0) ≡ true)
-    → Below 4 row → i + length base ≤ N → Rising (rule N may) i (differences i base row)
-unfolding differences
-differences-rise N i may [] row k f m = tt
-differences-rise N i may (b ∷ base) [] k f m = tt
-differences-rise N i may (b ∷ base) (c ∷ row) k f m =
-    let rest : Rising (rule N may) (suc i) (differences (suc i) base row)
-    = differences-rise N (suc i) may base row (λ j l d. let e : suc i + j ≡ i + suc j = omega arith in rw e (k (suc j) (omega arith) d)) (f .1) (omega arith) in
-    by-unless (Rising (rule N may) i) (eqb c b) (record { sample = i; value = c }) (differences (suc i) base row)
-    (λ t. rises-earlier (rule N may) i (differences (suc i) base row) rest)
-    (λ t. (record { rises = le-refl i; inside = omega arith; two-bits = f .0; allowed = rw add-zero at (k 0 (omega arith) (eqb-false c b t)) }, rest))
+-- what kinds 4, 6 and 7 list against is a category
+pub category-below : (category : ℕ) → kind (suc (suc (suc (suc category)))) ≡ against-category category → category < 4
+category-below zero h = lit< tt
+category-below (suc zero) h = lit< tt
+category-below (suc (suc zero)) h = lit< tt
+category-below (suc (suc (suc zero))) h = lit< tt
+category-below (suc (suc (suc (suc category)))) h = let z : _≡_ {A = ℕ} 0 1 = cc in absurd (omega arith)
 
--- a row comes back from its differences
-pub apply-differences : (i : ℕ) (done base row : List ℕ) → length done ≡ i → length row ≡ length base
-    → apply (differences i base row) (done ++ base) ≡ done ++ row
-unfolding differences
-apply-differences i done [] [] d l = refl
-apply-differences i done [] (c ∷ row) d l = absurd (omega arith)
-apply-differences i done (b ∷ base) [] d l = absurd (omega arith)
-apply-differences i done (b ∷ base) (c ∷ row) d l =
-    let next : length (done ++ (c ∷ [])) ≡ suc i = length-append done (c ∷ []) ∙ omega arith in
-    let rest : apply (differences (suc i) base row) (done ++ (c ∷ base)) ≡ done ++ (c ∷ row)
-    = ap (apply (differences (suc i) base row)) (sym (append-assoc done (c ∷ []) base))
-    ∙ apply-differences (suc i) (done ++ (c ∷ [])) base row next (omega arith)
-    ∙ append-assoc done (c ∷ []) row in
-    by-unless (λ (es : List Entry). apply es (done ++ (b ∷ base)) ≡ done ++ (c ∷ row)) (eqb c b) (record { sample = i; value = c }) (differences (suc i) base row)
-    (λ t. ap (λ (x : ℕ). apply (differences (suc i) base row) (done ++ (x ∷ base))) (sym (eqb-true c b t)) ∙ rest)
-    (λ t. ap (apply (differences (suc i) base row)) (set-at done b base c i d) ∙ rest)
+-- a track that fits stands for a row, if what it leans on is one
+pub track-row : (N : ℕ) (anchor : List ℕ) (t : Track) → Fits N anchor t → (leans (track-kind t) ≡ true → IsRow N anchor)
+    → IsRow N (track-categories N anchor t)
+track-row N anchor (plain categories) f a = f
+track-row N anchor (one-bit c bits es) f a =
+    apply-row (rule N (off-pair c)) N es (map (category-of c) bits) (f .1) (length-map bits (category-of c) ∙ f .0, pair-below c bits)
+track-row N anchor (leaning true es) f a =
+    let r : IsRow N (apply es anchor) = apply-row (rule N (off-anchor anchor)) N es anchor f (a refl) in
+    (exchange-all-length true (apply es anchor) ∙ r .0, exchange-all-below true (apply es anchor) (r .1))
+track-row N anchor (leaning false es) f a =
+    let r : IsRow N (apply es anchor) = apply-row (rule N (off-anchor anchor)) N es anchor f (a refl) in
+    (exchange-all-length false (apply es anchor) ∙ r .0, exchange-all-below false (apply es anchor) (r .1))
+track-row N anchor (sparse category es) f a =
+    apply-row (rule N (off-category category)) N es (replicate N category) (f .1)
+    (length-replicate N category, replicate-below 4 N category (category-below category (f .0)))
 
--- ---- from a list to its row and back
+-- the same of a body
+pub body-row : (N : ℕ) (anchor : List ℕ) (body : Body) → BodyFits N anchor body → (leans (body-type body) ≡ true → IsRow N anchor)
+    → IsRow N (body-categories N anchor body)
+body-row N anchor body f a = track-row N anchor (body .main) f a
 
--- from sample i on, a list may hold no value of the base
-abbrev pub NeedNot : Rule → ℕ → List ℕ → Type 0
-NeedNot u i base = (j v : ℕ) → j < length base → u .may (i + j) v ≡ true → v ≡ getD base j 1 → ⊥
+-- and then what the next one leans on is a row
+pub next-anchor-row : (N : ℕ) (anchor : List ℕ) (body : Body) → BodyFits N anchor body → (leans (body-type body) ≡ true → IsRow N anchor)
+    → IsRow N (next-anchor (body-type body) anchor (body-categories N anchor body))
+next-anchor-row N anchor body f a = by-test (IsRow N) (leans (body-type body)) a (λ t. body-row N anchor body f a)
 
-need-not-later : (u : Rule) (i b : ℕ) (base : List ℕ) → NeedNot u i (b ∷ base) → NeedNot u (suc i) base
-need-not-later u i b base k j v l h = k (suc j) v (omega arith) (let e : suc i + j ≡ i + suc j = omega arith in subst (λ (n : ℕ). u .may n v ≡ true) e h)
+-- ---- a record that does not lean
 
--- a list comes back as the differences of its row
-pub differences-patch : (u : Rule) (i : ℕ) (base : List ℕ) (es : List Entry) → NeedNot u i base → u .samples ≤ i + length base → Rising u i es
-    → differences i base (patch-values i base es) ≡ es
-unfolding differences patch
-differences-patch u i [] [] k m g = refl
-differences-patch u i [] (e ∷ es) k m g = absurd (omega (arith, g .0 .rises, g .0 .inside))
-differences-patch u i (b ∷ base) [] k m g =
-    simp (eq-eqb b b refl) (differences-patch u (suc i) base [] (need-not-later u i b base k) (omega arith) tt)
-differences-patch u i (b ∷ base) (e ∷ es) k m g =
-    let later : NeedNot u (suc i) base = need-not-later u i b base k in
-    by-test (λ (row : List ℕ). differences i (b ∷ base) row ≡ e ∷ es) (eqb (e .sample) i)
-    (λ t.
-    let at : e .sample ≡ i = eqb-true (e .sample) i t in
-    let held : u .may (i + 0) (e .value) ≡ true = rw (add-zero, ← at) (g .0 .allowed) in
-    simp (ne-eqb (e .value) b (k 0 (e .value) (omega arith) held), differences-patch u (suc i) base es later (omega arith) (subst (λ (s : ℕ). Rising u (suc s) es) at (g .1)))
-    (ap (λ (s : ℕ). record { sample = s; value = e .value } ∷ es) (sym at)))
-    (λ t. simp (eq-eqb b b refl) (differences-patch u (suc i) base (e ∷ es) later (omega arith) (rises-past u i e es g t)))
+kind-unused : (end N : ℕ) (anchor other : List ℕ) (k : Kind) (bs : List ℕ) → leans-kind k ≡ false
+    → read-kind end N anchor k bs ≡ read-kind end N other k bs
+unfolding read-kind
+kind-unused end N anchor other array bs h = refl
+kind-unused end N anchor other paired bs h = refl
+kind-unused end N anchor other (against-anchor inverted) bs h = never-both refl h
+kind-unused end N anchor other (against-category category) bs h = refl
+kind-unused end N anchor other no-kind bs h = refl
+
+-- it is read alike over every anchor
+pub anchor-unused : (end N : ℕ) (anchor other : List ℕ) (number : ℕ) (bs : List ℕ) → leans number ≡ false
+    → read-body end N anchor number bs ≡ read-body end N other number bs
+unfolding read-body
+anchor-unused end N anchor other number bs h =
+    ap (λ (m : Out Track). bind m (λ track left. ended end (record { main = track }) left)) (kind-unused end N anchor other (kind number) bs h)
+
+-- it stands for the same row
+pub categories-anchor-unused : (N : ℕ) (anchor other : List ℕ) (t : Track) → leans (track-kind t) ≡ false
+    → track-categories N anchor t ≡ track-categories N other t
+categories-anchor-unused N anchor other (plain categories) h = refl
+categories-anchor-unused N anchor other (one-bit c bits es) h = refl
+categories-anchor-unused N anchor other (leaning true es) h = never-both refl h
+categories-anchor-unused N anchor other (leaning false es) h = never-both refl h
+categories-anchor-unused N anchor other (sparse category es) h = refl
+
+pub row-anchor-unused : (N : ℕ) (anchor other : List ℕ) (body : Body) → leans (body-type body) ≡ false
+    → body-categories N anchor body ≡ body-categories N other body
+row-anchor-unused N anchor other body h = categories-anchor-unused N anchor other (body .main) h
+
+-- and it fits alike
+pub fits-anchor-unused : (N : ℕ) (anchor other : List ℕ) (t : Track) → leans (track-kind t) ≡ false → Fits N anchor t → Fits N other t
+fits-anchor-unused N anchor other (plain categories) h f = f
+fits-anchor-unused N anchor other (one-bit c bits es) h f = f
+fits-anchor-unused N anchor other (leaning true es) h f = never-both refl h
+fits-anchor-unused N anchor other (leaning false es) h f = never-both refl h
+fits-anchor-unused N anchor other (sparse category es) h f = f
+
+pub body-fits-anchor-unused : (N : ℕ) (anchor other : List ℕ) (body : Body) → leans (body-type body) ≡ false → BodyFits N anchor body → BodyFits N other body
+body-fits-anchor-unused N anchor other body h f = fits-anchor-unused N anchor other (body .main) h f

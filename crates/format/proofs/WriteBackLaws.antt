@@ -18,7 +18,7 @@ use Rattle.format.specs.Writer.{differences, bits-for, pair-track, kind-
 use Rattle.format.proofs.Rules.{by-test}
 use Rattle.format.proofs.CategoryLaws.{exchange-all-back}
 use Rattle.format.proofs.PairLaws.{code-read-back}
-use Rattle.format.proofs.RowLaws.{getD-replicate, patch, patch-values, put-patch, rises-past, NeedNot, differences-patch}
+use Rattle.format.proofs.DifferencesLaws.{getD-replicate, patch, patch-values, put-patch, rises-past, NeedNot, differences-patch}
 
 clash : {X : Type 0} → _≡_ {A = Bool} false true → X
 clash e = absurd (let n : _≡_ {A = ℕ} 0 1 = cc in omega arith)

@@ -17,7 +17,7 @@ use Rattle.format.specs.Track.{Kind, array, paired, against-anchor, agai
 use Rattle.format.specs.Writer.{differences, bits-for, pair-track, kind-track, track-for}
 use Rattle.format.proofs.Rules.{Holds, by-test, by-need}
 use Rattle.format.proofs.CategoryLaws.{exchange-all-twice, exchange-all-none, exchange-all-below, just-one-self}
-use Rattle.format.proofs.RowLaws.{getD-replicate, differences-rise, apply-differences}
+use Rattle.format.proofs.DifferencesLaws.{getD-replicate, differences-rise, apply-differences}
 
 -- ---- the base of each kind may be differed from
 

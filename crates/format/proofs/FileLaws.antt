@@ -1,0 +1,135 @@
+-- The whole-file check accepts exactly the bytes of a file that obeys.
+-- Assumes nothing.
+use mathlib.Core.Path.{_≡_, refl, sym, ap, ap₂, _∙_, subst}
+use Prim.Native.Nat.{ℕ, zero, suc, _+_, _≤_, _<_}
+use mathlib.Core.Logic.{_↔_}
+use mathlib.Core.List.{List, [], _∷_, _++_, map}
+use lib.ListN.{length, length-map}
+use native.Mathlib.Omega.{arith}
+use Rattle.format.specs.Base.{Below, Bytes, Out, ok, refuse, bind, map-out}
+use Rattle.format.specs.Body.{Body, body-type, body-bytes, BodyFits, read-body, body-categories}
+use Rattle.format.specs.Layout.{most-samples, fixed-bytes, arrays-bytes, header-end, Layout, fixed-of, columns-of, arrays-of, joined, in-parts, layout-bytes, LayoutObeys}
+use Rattle.format.specs.Header.{read-layout}
+use Rattle.format.specs.File.{File, layout-of-file, file-bytes, next-anchor, BodiesFit, Obeys, read-records, file-of, read-all, read-file}
+use Rattle.format.proofs.Rules.{Holds, by-bind, by-map, below-after}
+use Rattle.format.proofs.BodyLaws.{body-read-back, IsBody, body-as-written}
+use Rattle.format.proofs.HeaderLaws.{layout-read-back, IsLayout, layout-as-written, header-exactly}
+use Rattle.format.proofs.OffsetsLaws.{from-1-to-most, types-counted}
+
+-- ---- the records of a file, in variant order
+
+-- bodies that fit, written out, are read back
+pub records-read-back : (N start : ℕ) (anchor : List ℕ) (bodies : List Body) → N ≤ 65536 → BodiesFit N anchor bodies
+    → read-records N start anchor (map body-type bodies) (map (body-bytes N) bodies) ≡ ok bodies []
+unfolding read-records
+records-read-back N start anchor [] l f = refl
+records-read-back N start anchor (body ∷ bodies) l f =
+    let end : ℕ = start + length (body-bytes N body) in
+    simp (
+      body-read-back end N anchor body l (f .0),
+      records-read-back N end (next-anchor (body-type body) anchor (body-categories N anchor body)) bodies l (f .1),
+    )
+
+abbrev pub AllBytes : List (List ℕ) → Type 0
+AllBytes [] = Unit {0}
+AllBytes (bs ∷ rest) = Bytes bs × AllBytes rest
+
+pub record AreRecords (N : ℕ) (anchor types : List ℕ) (stored : List (List ℕ)) (bodies : List Body) (left : List ℕ) : Type 0 where
+  pub fit : BodiesFit N anchor bodies
+  pub types-are : types ≡ map body-type bodies
+  pub stored-are : stored ≡ map (body-bytes N) bodies
+  pub ended : left ≡ []
+
+-- what is accepted are bodies that fit, written out
+pub records-as-written : (N start : ℕ) (anchor types : List ℕ) (stored : List (List ℕ)) → length types ≡ length stored → AllBytes stored
+    → Holds (AreRecords N anchor types stored) (read-records N start anchor types stored)
+unfolding read-records
+records-as-written N start anchor [] [] n y = record { fit = tt; types-are = refl; stored-are = refl; ended = refl }
+records-as-written N start anchor [] (bs ∷ stored) n y = absurd (omega arith)
+records-as-written N start anchor (type ∷ types) [] n y = absurd (omega arith)
+records-as-written N start anchor (type ∷ types) (bs ∷ stored) n y =
+    let end : ℕ = start + length bs in
+    by-bind (IsBody N anchor type bs) (AreRecords N anchor (type ∷ types) (bs ∷ stored)) (read-body end N anchor type bs) _
+    (body-as-written end N anchor type bs (y .0)) (λ body left w.
+    let next : List ℕ = next-anchor type anchor (body-categories N anchor body) in
+    by-map (AreRecords N next types stored) (AreRecords N anchor (type ∷ types) (bs ∷ stored)) (read-records N end next types stored) _
+    (records-as-written N end next types stored (omega arith) (y .1)) (λ bodies left₂ v.
+    let same : next ≡ next-anchor (body-type body) anchor (body-categories N anchor body)
+    = ap (λ (t : ℕ). next-anchor t anchor (body-categories N anchor body)) (sym (w .kind)) in
+    record {
+      fit = (w .fits, subst (λ (x : List ℕ). BodiesFit N x bodies) same (v .fit));
+      types-are = ap₂ _∷_ (sym (w .kind)) (v .types-are);
+      stored-are = ap₂ _∷_ (w .written) (v .stored-are);
+      ended = v .ended;
+    }))
+
+-- ---- the bodies of a layout are bytes, one for each type
+
+joined-bytes : (stored : List (List ℕ)) → Bytes (joined stored) → AllBytes stored
+unfolding joined
+joined-bytes [] y = tt
+joined-bytes (bs ∷ stored) y = (front bs (joined stored) y, joined-bytes stored (below-after 256 bs (joined stored) y))
+  where
+    front : (xs ys : List ℕ) → Bytes (xs ++ ys) → Bytes xs
+    front [] ys h = tt
+    front (x ∷ xs) ys h = (h .0, front xs ys (h .1))
+
+pub bodies-are-bytes : (K : ℕ) (bs : List ℕ) (l : Layout) → Bytes bs → bs ≡ layout-bytes K l → AllBytes (l .bodies)
+unfolding layout-bytes in-parts
+bodies-are-bytes K bs l y e =
+    joined-bytes (l .bodies)
+    (below-after 256 (arrays-bytes K (fixed-of l) (arrays-of K l)) (joined (l .bodies)) (below-after 256 (fixed-bytes (fixed-of l)) _ (rw e at y)))
+
+pub one-type-each : (K : ℕ) (l : Layout) → LayoutObeys K l → length (l .types) ≡ length (l .bodies)
+one-type-each K l h = types-counted (fixed-of l) (columns-of l) (h .columns)
+
+-- ---- the file
+
+pub record IsFile (K : ℕ) (bs : List ℕ) (f : File) (left : List ℕ) : Type 0 where
+  pub obeys : Obeys K f
+  pub written : bs ≡ file-bytes K f
+  pub ended : left ≡ []
+
+-- the layout of what was read is the layout it was read from
+same-layout : (l : Layout) (bodies : List Body) → l .types ≡ map body-type bodies → l .bodies ≡ map (body-bytes (l .samples)) bodies
+    → l ≡ layout-of-file (file-of l bodies)
+same-layout l bodies t b = rw (← t, ← b)
+
+-- the bytes of a file that obeys are read back as that file
+pub file-read-back : (K : ℕ) (f : File) → zero < K → Obeys K f → read-file K (file-bytes K f) ≡ ok f []
+unfolding read-file read-all file-bytes
+file-read-back K f p h =
+    let l : Layout = layout-of-file f in
+    simp (
+      layout-read-back K l p (h .layout),
+      records-read-back (f .samples) (header-end K (fixed-of l)) [] (f .bodies) (from-1-to-most most-samples (f .samples) (h .layout .fixed .samples)) (h .bodies),
+    )
+
+-- what the whole-file check accepts obeys, and its bytes are those of the file
+pub file-as-written : (K : ℕ) (bs : List ℕ) → zero < K → Bytes bs → Holds (IsFile K bs) (read-file K bs)
+unfolding read-file read-all file-bytes
+file-as-written K bs p y =
+    by-bind (IsLayout K bs) (IsFile K bs) (read-layout K bs) _ (layout-as-written K bs p y) (λ l left w.
+    by-map (AreRecords (l .samples) [] (l .types) (l .bodies)) (IsFile K bs) (read-records (l .samples) (header-end K (fixed-of l)) [] (l .types) (l .bodies)) _
+    (records-as-written (l .samples) (header-end K (fixed-of l)) [] (l .types) (l .bodies) (one-type-each K l (w .obeys)) (bodies-are-bytes K bs l y (w .written)))
+    (λ bodies left₂ v.
+    let same : l ≡ layout-of-file (file-of l bodies) = same-layout l bodies (v .types-are) (v .stored-are) in
+    record {
+      obeys = record { layout = subst (LayoutObeys K) same (w .obeys); bodies = v .fit };
+      written = w .written ∙ ap (layout-bytes K) same;
+      ended = v .ended;
+    }))
+
+-- DEMAND 2: a file is accepted exactly when it is the bytes of a file that obeys
+pub file-exactly : (K : ℕ) (bs : List ℕ) (f : File) → zero < K → Bytes bs → (read-file K bs ≡ ok f []) ↔ (Obeys K f × (bs ≡ file-bytes K f))
+file-exactly K bs f p y = (
+  λ e. let h : IsFile K bs f [] = subst (Holds (IsFile K bs)) e (file-as-written K bs p y) in (h .obeys, h .written),
+  λ h. rw (h .1) (file-read-back K f p (h .0)),
+)
+
+-- two files that obey and have the same bytes are one
+pub file-unique : (K : ℕ) (f g : File) → zero < K → Obeys K f → Obeys K g → file-bytes K f ≡ file-bytes K g → f ≡ g
+file-unique K f g p h k e =
+    let a : read-file K (file-bytes K f) ≡ ok f [] = file-read-back K f p h in
+    let b : read-file K (file-bytes K g) ≡ ok g [] = file-read-back K g p k in
+    cc
