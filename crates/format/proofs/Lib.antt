@@ -18,3 +18,8 @@ pub mod TrackLaws
 pub mod BodyLaws
 pub mod RowLaws
 pub mod FileLaws
+pub mod ReadsLaws
+pub mod FlipTrackLaws
+pub mod FlipTypeLaws
+pub mod FlipBodiesLaws
+pub mod FlipLaws

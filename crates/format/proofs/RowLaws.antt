@@ -7,7 +7,7 @@ use mathlib.Core.List.{List, [], _∷_, map}
 use lib.ListN.{length, set, replicate, length-map, length-set, length-replicate}
 use lib.Dec.{lit<}
 use native.Mathlib.Omega.{arith}
-use Rattle.format.specs.Base.{Below, Out, bind}
+use Rattle.format.specs.Base.{pick, Below, Out, bind}
 use Rattle.format.specs.Category.{exchange-all}
 use Rattle.format.specs.Difflist.{Entry, Rule, Rising}
 use Rattle.format.specs.PairCode.{PairCode, category-of}
@@ -57,6 +57,11 @@ replicate-below : (m n value : ℕ) → value < m → Below m (replicate n value
 replicate-below m zero value l = tt
 replicate-below m (suc n) value l = (l, replicate-below m n value l)
 
+-- kinds 2 and 3 lean
+pub leaning-leans : (inverted : Bool) → leans (pick inverted 3 2) ≡ true
+leaning-leans true = refl
+leaning-leans false = refl
+
 -- what kinds 4, 6 and 7 list against is a category
 pub category-below : (category : ℕ) → kind (suc (suc (suc (suc category)))) ≡ against-category category → category < 4
 category-below zero h = lit< tt
@@ -71,12 +76,9 @@ pub track-row : (N : ℕ) (anchor : List ℕ) (t : Track) → Fits N anchor t �
 track-row N anchor (plain categories) f a = f
 track-row N anchor (one-bit c bits es) f a =
     apply-row (rule N (off-pair c)) N es (map (category-of c) bits) (f .1) (length-map bits (category-of c) ∙ f .0, pair-below c bits)
-track-row N anchor (leaning true es) f a =
-    let r : IsRow N (apply es anchor) = apply-row (rule N (off-anchor anchor)) N es anchor f (a refl) in
-    (exchange-all-length true (apply es anchor) ∙ r .0, exchange-all-below true (apply es anchor) (r .1))
-track-row N anchor (leaning false es) f a =
-    let r : IsRow N (apply es anchor) = apply-row (rule N (off-anchor anchor)) N es anchor f (a refl) in
-    (exchange-all-length false (apply es anchor) ∙ r .0, exchange-all-below false (apply es anchor) (r .1))
+track-row N anchor (leaning inverted es) f a =
+    let r : IsRow N (apply es anchor) = apply-row (rule N (off-anchor anchor)) N es anchor f (a (leaning-leans inverted)) in
+    (exchange-all-length inverted (apply es anchor) ∙ r .0, exchange-all-below inverted (apply es anchor) (r .1))
 track-row N anchor (sparse category es) f a =
     apply-row (rule N (off-category category)) N es (replicate N category) (f .1)
     (length-replicate N category, replicate-below 4 N category (category-below category (f .0)))
@@ -114,8 +116,7 @@ pub categories-anchor-unused : (N : ℕ) (anchor other : List ℕ) (t : Track) �
     → track-categories N anchor t ≡ track-categories N other t
 categories-anchor-unused N anchor other (plain categories) h = refl
 categories-anchor-unused N anchor other (one-bit c bits es) h = refl
-categories-anchor-unused N anchor other (leaning true es) h = never-both refl h
-categories-anchor-unused N anchor other (leaning false es) h = never-both refl h
+categories-anchor-unused N anchor other (leaning inverted es) h = never-both (leaning-leans inverted) h
 categories-anchor-unused N anchor other (sparse category es) h = refl
 
 pub row-anchor-unused : (N : ℕ) (anchor other : List ℕ) (body : Body) → leans (body-type body) ≡ false
@@ -126,8 +127,7 @@ row-anchor-unused N anchor other body h = categories-anchor-unused N anchor othe
 pub fits-anchor-unused : (N : ℕ) (anchor other : List ℕ) (t : Track) → leans (track-kind t) ≡ false → Fits N anchor t → Fits N other t
 fits-anchor-unused N anchor other (plain categories) h f = f
 fits-anchor-unused N anchor other (one-bit c bits es) h f = f
-fits-anchor-unused N anchor other (leaning true es) h f = never-both refl h
-fits-anchor-unused N anchor other (leaning false es) h f = never-both refl h
+fits-anchor-unused N anchor other (leaning inverted es) h f = never-both (leaning-leans inverted) h
 fits-anchor-unused N anchor other (sparse category es) h f = f
 
 pub body-fits-anchor-unused : (N : ℕ) (anchor other : List ℕ) (body : Body) → leans (body-type body) ≡ false → BodyFits N anchor body → BodyFits N other body

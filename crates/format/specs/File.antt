@@ -89,6 +89,10 @@ read-variant K l v =
     (bind (read-over K l [] (anchor K (l .types) v)) (λ lent left. read-over K l lent v))
     (read-over K l [] v)
 
+-- what variant v of a file reads as
+abbrev pub read-row : ℕ → List ℕ → FileVariant → Out (List ℕ)
+read-row K bs v = bind (read-layout K bs) (λ l left. read-variant K l v)
+
 -- ---- the flip of a set of variants
 
 -- from variant v on; lent: what the first leans on is in the set
