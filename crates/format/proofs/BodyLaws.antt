@@ -4,7 +4,7 @@ use mathlib.Core.Path.{_≡_, refl, _∙_, subst}
 use Prim.Native.Nat.{ℕ, _≤_}
 use mathlib.Core.Logic.{_↔_}
 use mathlib.Core.List.{List, [], _∷_, append-nil}
-use Rattle.format.specs.Base.{Bytes, Out, ok, refuse}
+use Rattle.format.specs.Base.{Bytes, ok}
 use Rattle.format.specs.Track.{Track, track-kind, track-bytes, read-track}
 use Rattle.format.specs.Body.{Body, body-type, body-bytes, BodyFits, ended, read-body}
 use Rattle.format.proofs.Rules.{Holds, by-bind}
@@ -26,6 +26,7 @@ pub record IsBody (N : ℕ) (anchor : List ℕ) (number : ℕ) (bs : List ℕ) (
   pub written : bs ≡ body-bytes N body
   pub ended : left ≡ []
 
+-- where a track was read and nothing is left, a body was read
 ended-as-written : (end N : ℕ) (anchor : List ℕ) (number : ℕ) (bs : List ℕ) (t : Track) (left : List ℕ) → IsTrack N anchor number bs t left
     → Holds (IsBody N anchor number bs) (ended end (record { main = t }) left)
 ended-as-written end N anchor number bs t [] o =

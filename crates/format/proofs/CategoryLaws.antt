@@ -3,7 +3,7 @@
 use mathlib.Core.Path.{_≡_, refl, sym, ap, ap₂, _∙_}
 use Prim.Native.Nat.{ℕ, zero, suc, _<_}
 use mathlib.Core.Bool.{Bool, true, false}
-use mathlib.Core.List.{List, [], _∷_, map}
+use mathlib.Core.List.{List, [], _∷_}
 use lib.ListN.{length, getD, set, replicate, length-map, List·getD-map}
 use lib.Dec.{eqb}
 use native.Mathlib.Omega.{arith}
@@ -18,16 +18,19 @@ pub just-one-self : (a : Bool) → just-one a a ≡ false
 just-one-self true = refl
 just-one-self false = refl
 
+-- what is in just one of itself and nothing is in it
 pub just-one-none : (a : Bool) → just-one a false ≡ a
 just-one-none true = refl
 just-one-none false = refl
 
+-- the order of the two makes no difference
 pub just-one-order : (a b : Bool) → just-one a b ≡ just-one b a
 just-one-order true true = refl
 just-one-order true false = refl
 just-one-order false true = refl
 just-one-order false false = refl
 
+-- nor does how three are joined
 pub just-one-joined : (a b c : Bool) → just-one a (just-one b c) ≡ just-one (just-one a b) c
 just-one-joined true true true = refl
 just-one-joined true true false = refl
@@ -104,9 +107,11 @@ exchange-all-none (x ∷ row) = ap (_∷_ x) (exchange-all-none row)
 pub exchange-all-back : (b : Bool) (row : List ℕ) → exchange-all b (exchange-all b row) ≡ row
 exchange-all-back b row = exchange-all-twice b b row ∙ ap (λ (a : Bool). exchange-all a row) (just-one-self b) ∙ exchange-all-none row
 
+-- an exchanged row is as long
 pub exchange-all-length : (b : Bool) (row : List ℕ) → length (exchange-all b row) ≡ length row
 exchange-all-length b row = length-map row (exchange-if b)
 
+-- a row of categories stays one
 pub exchange-all-below : (b : Bool) (row : List ℕ) → Below 4 row → Below 4 (exchange-all b row)
 exchange-all-below b [] h = tt
 exchange-all-below b (x ∷ row) h = (exchange-below b x (h .0), exchange-all-below b row (h .1))

@@ -8,7 +8,7 @@ use lib.ListN.{length}
 use lib.Dec.{leb, lit≤}
 use native.Mathlib.Omega.{arith}
 use borrow.Author.Tests.{le-leb}
-use Rattle.format.specs.Base.{Bytes, Out, ok, refuse}
+use Rattle.format.specs.Base.{Bytes, ok}
 use Rattle.format.specs.Varint.{varint-bytes, read-varint}
 use Rattle.format.specs.Numbers.{numbers-bytes, read-numbers, read-bytes}
 use Rattle.format.specs.Packed.{two, packed, read-packed}

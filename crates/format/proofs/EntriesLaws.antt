@@ -1,14 +1,13 @@
 -- The entries of a difference list, once its parts have been cut out: its parts' lengths and bounds, entries read back, entries as written.
 -- Assumes nothing.
 use mathlib.Core.Path.{_≡_, refl, ap}
-use Prim.Native.Nat.{ℕ, zero, suc, _+_, _-_, _*_, _/_, _^_, _≤_, _<_, zero-le}
-use mathlib.Core.Bool.{Bool, true}
+use Prim.Native.Nat.{ℕ, zero, suc, _+_, _-_, _/_, _^_, _≤_, _<_, zero-le}
 use mathlib.Core.List.{List, [], _∷_, _++_, append-assoc}
 use lib.ListN.{length}
 use lib.Dec.{ltb, leb, eqb, lit≤}
 use native.Mathlib.Omega.{arith}
 use borrow.Author.Tests.{lt-ltb, le-leb, eq-eqb, ltb-true, leb-true, eqb-true}
-use Rattle.format.specs.Base.{Below, Bytes, Out, ok, refuse, map-out}
+use Rattle.format.specs.Base.{Below, Bytes, Out, ok, map-out}
 use Rattle.format.specs.Varint.{varint-bytes, read-varint}
 use Rattle.format.specs.Difflist.{Entry, Rule, Good, Rising, groups, heads, sizes-after, size-bytes, values, steps, Parts, read-entry, read-entries, read-first}
 use Rattle.format.proofs.Rules.{Holds, by-need, by-map, by-bind, weaken, below-after}

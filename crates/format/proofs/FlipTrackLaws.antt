@@ -1,15 +1,15 @@
 -- The flip of a main track over its flipped anchor: it fits, it stands for the row that it should, and how one flip follows another.
 -- Assumes nothing.
 use mathlib.Core.Path.{_≡_, refl, sym, ap, ap₂, _∙_}
-use Prim.Native.Nat.{ℕ, zero, suc, _<_}
+use Prim.Native.Nat.{ℕ, zero, suc}
 use mathlib.Core.Bool.{Bool, true, false, not, _&&_}
 use mathlib.Core.List.{List, [], _∷_, map}
-use lib.ListN.{length, getD, set, replicate, length-map}
+use lib.ListN.{getD, set, replicate, length-map}
 use lib.Dec.{eqb}
 use Rattle.format.specs.Base.{pick}
 use Rattle.format.specs.Category.{exchange-if, exchange-all, just-one}
 use Rattle.format.specs.Difflist.{Entry, Rising}
-use Rattle.format.specs.PairCode.{PairCode, pair, category-of}
+use Rattle.format.specs.PairCode.{pair, category-of}
 use Rattle.format.specs.Track.{against-category, kind, leans, Track, plain, one-bit, leaning, sparse, track-kind, off-pair, off-category, off-anchor, rule, Fits, apply, track-categories, revalue, image-if, flip-track}
 use Rattle.format.specs.Body.{Body, body-type, body-categories, flip-body}
 use Rattle.format.specs.File.{next-anchor}
@@ -42,6 +42,7 @@ category-exchanged true (suc zero) h = h
 category-exchanged true (suc (suc zero)) h = refl
 category-exchanged true (suc (suc (suc category))) h = h
 
+-- an exchanged value differs from the exchanged anchor's exactly where the value differs from the anchor's
 off-anchor-exchanged : (b : Bool) (anchor : List ℕ) (sample value : ℕ) → off-anchor (exchange-all b anchor) sample (exchange-if b value) ≡ off-anchor anchor sample value
 off-anchor-exchanged b anchor sample value =
     ap not (ap (eqb (exchange-if b value)) (exchange-all-at b anchor sample) ∙ exchange-eqb b value (getD anchor sample 1))
@@ -123,6 +124,7 @@ flip-track-none (sparse category es) = ap (sparse category) (revalue-none es)
 pub flip-body-twice : (a o a′ o′ : Bool) (body : Body) → flip-body a o (flip-body a′ o′ body) ≡ flip-body (just-one a a′) (just-one o o′) body
 flip-body-twice a o a′ o′ body = ap (λ (t : Track). record { main = t }) (flip-track-twice a o a′ o′ (body .main))
 
+-- and no flip leaves a body
 pub flip-body-none : (body : Body) → flip-body false false body ≡ body
 flip-body-none body = ap (λ (t : Track). record { main = t }) (flip-track-none (body .main))
 

@@ -5,18 +5,17 @@ use Prim.Native.Nat.{ℕ, zero, suc, _+_, _-_, _<_}
 use mathlib.Core.Bool.{Bool, true, false, not, _&&_}
 use mathlib.Core.List.{List, [], _∷_, _++_, map}
 use lib.ListN.{length, length-append, length-map}
-use lib.Dec.{eqb, ltb, lit<}
+use lib.Dec.{eqb, lit<}
 use native.Mathlib.Omega.{arith}
 use borrow.Author.Tests.{lt-ltb, ne-eqb}
 use Rattle.format.specs.declared.BlockVariant.{BlockVariant}
-use Rattle.format.specs.Base.{pick}
 use Rattle.format.specs.Category.{exchange-if, exchange-all, just-one}
 use Rattle.format.specs.Varint.{varint-bytes}
 use Rattle.format.specs.Numbers.{numbers-bytes}
 use Rattle.format.specs.Packed.{one, two, packed}
 use Rattle.format.specs.Difflist.{Entry, number-width, heads, sizes-after, size-bytes, values, steps, list-parts, list-bytes}
-use Rattle.format.specs.PairCode.{PairCode, pair}
-use Rattle.format.specs.Track.{against-category, kind, leans, Track, plain, one-bit, leaning, sparse, track-kind, Fits, bit-number, track-bytes, revalue, image-if, flip-track}
+use Rattle.format.specs.PairCode.{pair}
+use Rattle.format.specs.Track.{against-category, kind, leans, Track, plain, one-bit, leaning, sparse, track-kind, Fits, bit-number, track-bytes, revalue, flip-track}
 use Rattle.format.specs.Layout.{type-allowed}
 use Rattle.format.proofs.CategoryLaws.{exchange-all-length}
 use Rattle.format.proofs.PackedLaws.{packed-length}
@@ -25,23 +24,27 @@ use Rattle.format.proofs.FlipTrackLaws.{fits-flip, leans-flip}
 
 -- ---- of a list only the values change
 
+-- the heads stay
 heads-kept : (b : Bool) (room : ℕ) (es : List Entry) → heads room (revalue b es) ≡ heads room es
 unfolding heads
 heads-kept b room [] = refl
 heads-kept b zero (e ∷ es) = ap (_∷_ (e .sample)) (heads-kept b 63 es)
 heads-kept b (suc room) (e ∷ es) = heads-kept b room es
 
+-- from the middle of a group: the size bytes stay
 sizes-kept : (b : Bool) (room size before : ℕ) (es : List Entry) → sizes-after room size before (revalue b es) ≡ sizes-after room size before es
 unfolding sizes-after
 sizes-kept b room size before [] = refl
 sizes-kept b zero size before (e ∷ es) = ap (_∷_ (size - 63)) (sizes-kept b 63 0 (e .sample) es)
 sizes-kept b (suc room) size before (e ∷ es) = sizes-kept b room (size + length (varint-bytes (e .sample - before))) (e .sample) es
 
+-- the size bytes stay
 size-bytes-kept : (b : Bool) (es : List Entry) → size-bytes (revalue b es) ≡ size-bytes es
 unfolding size-bytes
 size-bytes-kept b [] = refl
 size-bytes-kept b (e ∷ es) = sizes-kept b 63 0 (e .sample) es
 
+-- the steps stay
 steps-kept : (b : Bool) (room before : ℕ) (es : List Entry) → steps room before (revalue b es) ≡ steps room before es
 unfolding steps
 steps-kept b room before [] = refl

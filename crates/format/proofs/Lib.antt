@@ -23,3 +23,5 @@ pub mod FlipTrackLaws
 pub mod FlipTypeLaws
 pub mod FlipBodiesLaws
 pub mod FlipLaws
+pub mod WriteReadLaws
+pub mod Refusals

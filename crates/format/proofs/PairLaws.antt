@@ -1,12 +1,11 @@
 -- The six pair codes: their numbers read back, and the one rule of the table: a code's image stands for the exchanged pair.
 -- Assumes nothing.
-use mathlib.Core.Path.{_≡_, refl, sym, ap, ap₂, _∙_}
-use Prim.Native.Nat.{ℕ, zero, suc, _<_}
+use mathlib.Core.Path.{_≡_, refl, ap, ap₂, _∙_}
+use Prim.Native.Nat.{ℕ, _<_}
 use mathlib.Core.Bool.{Bool, true, false, _&&_, _||_}
 use mathlib.Core.List.{List, [], _∷_, map}
 use lib.Dec.{eqb, lit<}
 use borrow.Author.Tests.{eqb-true}
-use Rattle.format.specs.Base.{pick}
 use Rattle.format.specs.Category.{exchange, exchange-if, exchange-all, just-one}
 use Rattle.format.specs.PairCode.{PairCode, code-1, code-2, code-3, code-5, code-6, code-9, pair-codes, pair, image, category-of, in-pair, Coded, coded, not-coded, seek, code-numbered}
 use Rattle.format.specs.Track.{image-if}
@@ -30,11 +29,13 @@ abbrev pub IsCode : ℕ → Coded → Type 0
 IsCode number (coded c) = number ≡ pair c .code
 IsCode number not-coded = Unit {0}
 
+-- whatever code is found in a list of them has the number
 seek-as-written : (number : ℕ) (cs : List PairCode) → IsCode number (seek number cs)
 seek-as-written number [] = tt
 seek-as-written number (c ∷ cs) =
     by-test (IsCode number) (eqb number (pair c .code)) (λ t. eqb-true number (pair c .code) t) (λ t. seek-as-written number cs)
 
+-- whatever code is found has the number
 pub code-as-written : (number : ℕ) → IsCode number (code-numbered number)
 unfolding code-numbered
 code-as-written number = seek-as-written number pair-codes
@@ -85,6 +86,7 @@ pub categories-of-image : (member : Bool) (c : PairCode) (bits : List Bool)
 categories-of-image member c [] = refl
 categories-of-image member c (b ∷ bits) = ap₂ _∷_ (category-of-image member c b) (categories-of-image member c bits)
 
+-- the order of two tests makes no difference
 or-order : (a b : Bool) → a || b ≡ b || a
 or-order true true = refl
 or-order true false = refl

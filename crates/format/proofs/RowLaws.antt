@@ -1,17 +1,16 @@
 -- What a record stands for: a row of N categories. A record that does not lean has no use for an anchor.
 -- Assumes nothing.
-use mathlib.Core.Path.{_≡_, refl, sym, ap, _∙_}
-use Prim.Native.Nat.{ℕ, zero, suc, _≤_, _<_}
+use mathlib.Core.Path.{_≡_, refl, ap, _∙_}
+use Prim.Native.Nat.{ℕ, zero, suc, _<_}
 use mathlib.Core.Bool.{Bool, true, false}
 use mathlib.Core.List.{List, [], _∷_, map}
 use lib.ListN.{length, set, replicate, length-map, length-set, length-replicate}
 use lib.Dec.{lit<}
 use native.Mathlib.Omega.{arith}
 use Rattle.format.specs.Base.{pick, Below, Out, bind}
-use Rattle.format.specs.Category.{exchange-all}
 use Rattle.format.specs.Difflist.{Entry, Rule, Rising}
 use Rattle.format.specs.PairCode.{PairCode, category-of}
-use Rattle.format.specs.Track.{Kind, array, paired, against-anchor, against-category, no-kind, kind, leans-kind, leans, Track, plain, one-bit, leaning, sparse, track-kind, off-pair, off-category, off-anchor, rule, Fits, read-kind, read-track, apply, track-categories}
+use Rattle.format.specs.Track.{Kind, array, paired, against-anchor, against-category, no-kind, kind, leans-kind, leans, Track, plain, one-bit, leaning, sparse, track-kind, off-pair, off-category, off-anchor, rule, Fits, read-kind, apply, track-categories}
 use Rattle.format.specs.Body.{Body, body-type, BodyFits, ended, read-body, body-categories}
 use Rattle.format.specs.File.{next-anchor}
 use Rattle.format.proofs.Rules.{by-test}
@@ -49,10 +48,12 @@ apply-below held least (e ∷ es) row g h =
 pub apply-row : (held : Rule) (N : ℕ) (es : List Entry) (row : List ℕ) → Rising held 0 es → IsRow N row → IsRow N (apply es row)
 apply-row held N es row g h = (apply-length es row ∙ h .0, apply-below held 0 es row g (h .1))
 
+-- a pair's categories are below 4
 pair-below : (c : PairCode) (bits : List Bool) → Below 4 (map (category-of c) bits)
 pair-below c [] = tt
 pair-below c (b ∷ bits) = (category-of-below c b, pair-below c bits)
 
+-- so is one category for all samples
 replicate-below : (m n value : ℕ) → value < m → Below m (replicate n value)
 replicate-below m zero value l = tt
 replicate-below m (suc n) value l = (l, replicate-below m n value l)
@@ -95,6 +96,7 @@ next-anchor-row N anchor body f a = by-test (IsRow N) (leans (body-type body)) a
 
 -- ---- a record that does not lean
 
+-- by the kind: it is read alike over every anchor
 kind-unused : (end N : ℕ) (anchor other : List ℕ) (k : Kind) (bs : List ℕ) → leans-kind k ≡ false
     → read-kind end N anchor k bs ≡ read-kind end N other k bs
 unfolding read-kind
@@ -119,6 +121,7 @@ categories-anchor-unused N anchor other (one-bit c bits es) h = refl
 categories-anchor-unused N anchor other (leaning inverted es) h = never-both (leaning-leans inverted) h
 categories-anchor-unused N anchor other (sparse category es) h = refl
 
+-- the same of a body
 pub row-anchor-unused : (N : ℕ) (anchor other : List ℕ) (body : Body) → leans (body-type body) ≡ false
     → body-categories N anchor body ≡ body-categories N other body
 row-anchor-unused N anchor other body h = categories-anchor-unused N anchor other (body .main) h
@@ -130,5 +133,6 @@ fits-anchor-unused N anchor other (one-bit c bits es) h f = f
 fits-anchor-unused N anchor other (leaning inverted es) h f = never-both (leaning-leans inverted) h
 fits-anchor-unused N anchor other (sparse category es) h f = f
 
+-- the same of a body
 pub body-fits-anchor-unused : (N : ℕ) (anchor other : List ℕ) (body : Body) → leans (body-type body) ≡ false → BodyFits N anchor body → BodyFits N other body
 body-fits-anchor-unused N anchor other body h f = fits-anchor-unused N anchor other (body .main) h f

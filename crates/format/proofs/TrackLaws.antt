@@ -1,18 +1,18 @@
 -- A record's main track: read back, as written, and that what is written are bytes.
 -- Assumes nothing.
-use mathlib.Core.Path.{_≡_, refl, sym, ap, _∙_}
+use mathlib.Core.Path.{_≡_, refl, ap, _∙_}
 use Prim.Native.Nat.{ℕ, zero, suc, _^_, _≤_, _<_}
-use mathlib.Core.Bool.{Bool, true, false, not}
+use mathlib.Core.Bool.{Bool, true, false}
 use mathlib.Core.List.{List, [], _∷_, _++_, map, append-assoc}
-use lib.ListN.{length, length-map}
+use lib.ListN.{length-map}
 use lib.Dec.{leb, lit<}
 use native.Mathlib.Omega.{arith}
 use borrow.Author.Tests.{leb-true}
-use Rattle.format.specs.Base.{Below, Bytes, Out, ok, refuse}
+use Rattle.format.specs.Base.{Below, Bytes, ok}
 use Rattle.format.specs.Packed.{one, two, packed, read-packed}
-use Rattle.format.specs.Difflist.{Entry, Rule, Rising, number-width, list-bytes, read-list}
+use Rattle.format.specs.Difflist.{Entry, Rising, number-width, list-bytes, read-list}
 use Rattle.format.specs.PairCode.{PairCode, pair, Coded, coded, not-coded, code-numbered}
-use Rattle.format.specs.Track.{Kind, array, paired, against-anchor, against-category, no-kind, kind, Track, plain, one-bit, leaning, sparse, track-kind, off-pair, off-category, off-anchor, rule, Fits, bit-number, bit-set, track-bytes, as-read, read-pair-code, read-listed, read-kind, read-track}
+use Rattle.format.specs.Track.{kind, Track, plain, one-bit, leaning, sparse, track-kind, off-pair, off-category, off-anchor, rule, Fits, bit-number, bit-set, track-bytes, as-read, read-pair-code, read-listed, read-kind, read-track}
 use Rattle.format.proofs.Rules.{Holds, by-test, by-map, by-bind, below-after, below-append}
 use Rattle.format.proofs.PackedLaws.{packed-read-back, packed-as-written, packed-are-bytes, ArePacked}
 use Rattle.format.proofs.DifflistLaws.{IsList, list-read-back, list-as-written, list-are-bytes}
@@ -45,10 +45,12 @@ bits-as-written (suc (suc n) ∷ numbers) h = absurd (omega (arith, h .0))
 pub wide-enough : (N : ℕ) → N ≤ 65536 → N ≤ 256 ^ number-width N
 wide-enough N h = by-test (λ (w : ℕ). N ≤ 256 ^ w) (leb N 256) (λ t. leb-true N 256 t) (λ t. h)
 
+-- a code's number is read as the code
 pair-code-read-back : (end : ℕ) (c : PairCode) (left : List ℕ) → read-pair-code end (pair c .code ∷ left) ≡ ok c left
 unfolding read-pair-code
 pair-code-read-back end c left = simp code-read-back
 
+-- a list that obeys, written out, is read as the track that it makes
 listed-read-back : (track : List Entry → Track) (end N : ℕ) (may : ℕ → ℕ → Bool) (es : List Entry) (left : List ℕ) → N ≤ 65536 → Rising (rule N may) 0 es
     → read-listed track end N may (list-bytes (number-width N) es ++ left) ≡ ok (track es) left
 unfolding read-listed
@@ -80,18 +82,21 @@ pub record IsTrack (N : ℕ) (anchor : List ℕ) (number : ℕ) (bs : List ℕ) 
   pub fits : Fits N anchor t
   pub written : bs ≡ track-bytes N t ++ left
 
-abbrev IsPairCode : List ℕ → PairCode → List ℕ → Type 0
+abbrev pub IsPairCode : List ℕ → PairCode → List ℕ → Type 0
 IsPairCode bs c left = bs ≡ pair c .code ∷ left
 
+-- the code that is handed on is the one of the byte
 found-as-written : (place b : ℕ) (left : List ℕ) (found : Coded) → IsCode b found → Holds (IsPairCode (b ∷ left)) (as-read place left found)
 found-as-written place b left (coded c) h = ap (λ (x : ℕ). x ∷ left) h
 found-as-written place b left not-coded h = tt
 
-pair-code-as-written : (end : ℕ) (bs : List ℕ) → Holds (IsPairCode bs) (read-pair-code end bs)
+-- whatever code was read, its number is the first byte
+pub pair-code-as-written : (end : ℕ) (bs : List ℕ) → Holds (IsPairCode bs) (read-pair-code end bs)
 unfolding read-pair-code
 pair-code-as-written end [] = tt
 pair-code-as-written end (b ∷ left) = found-as-written _ b left (code-numbered b) (code-as-written b)
 
+-- to show Q of a track made of a list, show it of every list that obeys and was written there
 by-listed : (Q : Track → List ℕ → Type 0) (track : List Entry → Track) (end N : ℕ) (may : ℕ → ℕ → Bool) (bs : List ℕ) → Bytes bs
     → ((es : List Entry) (left : List ℕ) → bs ≡ list-bytes (number-width N) es ++ left → Rising (rule N may) 0 es → Q (track es) left)
     → Holds Q (read-listed track end N may bs)
@@ -134,6 +139,7 @@ track-as-written end N anchor (suc (suc (suc (suc (suc (suc (suc (suc number))))
 
 -- ---- what is written are bytes
 
+-- a track that fits is written in bytes
 pub track-are-bytes : (N : ℕ) (anchor : List ℕ) (t : Track) → N ≤ 65536 → Fits N anchor t → Bytes (track-bytes N t)
 unfolding track-bytes
 track-are-bytes N anchor (plain categories) l f = packed-are-bytes two categories (f .1)

@@ -1,0 +1,115 @@
+-- DEMAND 2: categories written in any kind read back as themselves; an accepted record, read and written again, gives the same bytes but for cleared bits.
+-- Assumes nothing.
+use mathlib.Core.Path.{_≡_, refl, sym, ap, ap₂, _∙_, subst}
+use Prim.Native.Nat.{ℕ, zero, suc, _≤_, _<_}
+use mathlib.Core.Bool.{Bool, true, false}
+use mathlib.Core.List.{List, [], _∷_}
+use lib.ListN.{length}
+use lib.Dec.{eqb, ltb, leb}
+use native.Mathlib.Omega.{arith}
+use borrow.Author.Tests.{ltb-true, lt-ltb, le-leb, eq-eqb, eqb-true}
+use Rattle.format.specs.Base.{pick, Below, Bytes, Out, ok, refuse, bind, map-out, need}
+use Rattle.format.specs.Track.{leans, Track, plain, one-bit, leaning, sparse, track-kind, track-bytes, track-categories}
+use Rattle.format.specs.Body.{Body, body-type, body-bytes, read-body, body-categories}
+use Rattle.format.specs.Layout.{from-1-to, most-samples}
+use Rattle.format.specs.Writer.{track-for, need-categories, write-record, track-code, cleared}
+use Rattle.format.proofs.Rules.{Holds, by-test, by-need, by-bind}
+use Rattle.format.proofs.RowLaws.{IsRow, body-row}
+use Rattle.format.proofs.BodyLaws.{body-read-back, record-exactly}
+use Rattle.format.proofs.OffsetsLaws.{from-1-to-most}
+use Rattle.format.proofs.WriterLaws.{Writes, track-for-writes}
+use Rattle.format.proofs.WriteBackLaws.{lent-for, track-back}
+
+-- ---- refusal 20
+
+by-categories : {A : Type 0} (Q : A → List ℕ → Type 0) (i : ℕ) (categories : List ℕ) (next : Out A) → (Below 4 categories → Holds Q next)
+    → Holds Q (need-categories i categories next)
+unfolding need-categories
+by-categories Q i [] next h = h tt
+by-categories Q i (c ∷ categories) next h =
+    by-need Q (ltb c 4) _ _ _ (λ t. by-categories Q (suc i) categories next (λ g. h (ltb-true c 4 t, g)))
+
+categories-pass : {A : Type 0} (i : ℕ) (categories : List ℕ) (next : Out A) → Below 4 categories → need-categories i categories next ≡ next
+unfolding need-categories
+categories-pass i [] next h = refl
+categories-pass i (c ∷ categories) next h = simp (lt-ltb c 4 (h .0)) (categories-pass (suc i) categories next (h .1))
+
+-- ---- written, then read
+
+itself : {A : Type 0} (m : Out A) → Holds (λ (a : A) (left : List ℕ). m ≡ ok a left) m
+itself (ok a left) = refl
+itself (refuse number place) = tt
+
+-- the record is read back as the categories, wherever in a file it stands
+abbrev pub ReadsBack : ℕ → List ℕ → List ℕ → List ℕ → List ℕ → Type 0
+ReadsBack number lent categories bs left =
+    ((end : ℕ) → map-out (body-categories (length categories) lent) (read-body end (length categories) lent number bs) ≡ ok categories []) × (left ≡ [])
+
+writes-reads : (number : ℕ) (lent categories : List ℕ) (track : Track) (left : List ℕ) → length categories ≤ 65536 → Writes number lent categories track left
+    → ReadsBack number lent categories (track-bytes (length categories) track) []
+writes-reads number lent categories track left l w = (
+  λ end.
+      ap (λ (k : ℕ). map-out (body-categories (length categories) lent) (read-body end (length categories) lent k (track-bytes (length categories) track))) (sym (w .kind-is))
+      ∙ ap (map-out (body-categories (length categories) lent)) (body-read-back end (length categories) lent (record { main = track }) l (w .fits))
+      ∙ ap (λ (row : List ℕ). ok row []) (w .stands-for),
+  refl,
+)
+
+-- the anchor is as long as the categories where the kind leans
+lent-length : (number n m : ℕ) → eqb n (pick (leans number) m 0) ≡ true → leans number ≡ true → n ≡ m
+lent-length number n m e t = eqb-true n (pick (leans number) m 0) e ∙ simp t
+
+-- DEMAND 2: "Categories written in any of the seven main-track kinds read back as themselves."
+pub write-read : (categories : List ℕ) (number code : ℕ) (lent : List ℕ) (room : ℕ)
+    → Holds (ReadsBack number lent categories) (write-record categories number code lent room)
+unfolding write-record
+write-read categories number code lent room =
+    let N : ℕ = length categories in
+    let Q : List ℕ → List ℕ → Type 0 = ReadsBack number lent categories in
+    by-need Q (from-1-to most-samples N) _ _ _ (λ sized.
+    by-bind (λ (track : Track) (left : List ℕ). track-for number code lent categories ≡ ok track left) Q (track-for number code lent categories) _
+    (itself (track-for number code lent categories)) (λ track left is.
+    by-need Q (eqb (length lent) (pick (leans number) N 0)) _ _ _ (λ fit.
+    by-categories Q 0 categories _ (λ below.
+    by-categories Q 0 lent _ (λ below-lent.
+    by-need Q (leb (length (track-bytes N track)) room) _ _ _ (λ fits.
+    writes-reads number lent categories track left (from-1-to-most most-samples N sized)
+    (subst (Holds (Writes number lent categories)) is (track-for-writes number code lent categories below (lent-length number (length lent) N fit)))))))))
+
+-- ---- read, then written again
+
+lent-below : (t : Track) (anchor : List ℕ) → (leans (track-kind t) ≡ true → Below 4 anchor) → Below 4 (lent-for t anchor)
+lent-below t anchor h = by-test (Below 4) (leans (track-kind t)) h (λ t. tt)
+
+lent-fits : (t : Track) (anchor : List ℕ) (N : ℕ) → (leans (track-kind t) ≡ true → length anchor ≡ N)
+    → eqb (length (lent-for t anchor)) (pick (leans (track-kind t)) N 0) ≡ true
+lent-fits t anchor N h = go (leans (track-kind t)) h
+  where
+    go : (b : Bool) → (b ≡ true → length anchor ≡ N) → eqb (length (pick b anchor [])) (pick b N 0) ≡ true
+    go true h = eq-eqb (length anchor) N (h refl)
+    go false h = refl
+
+-- the writer gives the record's own bytes, the bits of listed samples cleared, into an output that has room for them
+pub read-write : (end N : ℕ) (anchor : List ℕ) (number : ℕ) (bs : List ℕ) (body : Body) (room : ℕ) → from-1-to most-samples N ≡ true → Bytes bs
+    → (leans number ≡ true → IsRow N anchor) → read-body end N anchor number bs ≡ ok body [] → length (track-bytes N (cleared (body .main))) ≤ room
+    → write-record (body-categories N anchor body) number (track-code (body .main)) (lent-for (body .main) anchor) room ≡ ok (track-bytes N (cleared (body .main))) []
+unfolding write-record
+read-write end N anchor number bs body room sized y row e fits =
+    let t : Track = body .main in
+    let h = record-exactly end N anchor number bs body (from-1-to-most most-samples N sized) y .0 e in
+    let leaning-row : leans (track-kind t) ≡ true → IsRow N anchor = λ q. row (ap leans (sym (h .0)) ∙ q) in
+    let is-row : IsRow N (track-categories N anchor t) = body-row N anchor body (h .1) leaning-row in
+    let back : track-for (track-kind t) (track-code t) (lent-for t anchor) (track-categories N anchor t) ≡ ok (cleared t) []
+    = track-back N anchor t (h .1) (λ q. leaning-row q .0) (is-row .0) in
+    let row-below : Below 4 (track-categories N anchor t) = is-row .1 in
+    let lent-small : Below 4 (lent-for t anchor) = lent-below t anchor (λ q. leaning-row q .1) in
+    let lent-there : eqb (length (lent-for t anchor)) (pick (leans (track-kind t)) N 0) ≡ true = lent-fits t anchor N (λ q. leaning-row q .0) in
+    let there : leb (length (track-bytes N (cleared t))) room ≡ true = le-leb (length (track-bytes N (cleared t))) room fits in
+    rw (← (h .0), is-row .0) (simp (sized, back, lent-there, categories-pass, there))
+
+-- only kind 1 has such bits
+pub cleared-same : (t : Track) → (track-kind t ≡ 1 → ⊥) → cleared t ≡ t
+cleared-same (plain categories) h = refl
+cleared-same (one-bit c bits es) h = absurd (h refl)
+cleared-same (leaning inverted es) h = refl
+cleared-same (sparse category es) h = refl
