@@ -1,10 +1,12 @@
 -- The six pair codes: their numbers read back, and the one rule of the table: a code's image stands for the exchanged pair.
 -- Assumes nothing.
 use mathlib.Core.Path.{_≡_, refl, ap, ap₂, _∙_}
-use Prim.Native.Nat.{ℕ, _<_}
+use Prim.Native.Nat.{ℕ, zero, suc, _<_}
 use mathlib.Core.Bool.{Bool, true, false, _&&_, _||_}
 use mathlib.Core.List.{List, [], _∷_, map}
+use lib.ListN.{length, getD}
 use lib.Dec.{eqb, lit<}
+use native.Mathlib.Omega.{arith}
 use borrow.Author.Tests.{eqb-true}
 use Rattle.format.specs.Category.{exchange, exchange-if, exchange-all, just-one}
 use Rattle.format.specs.PairCode.{PairCode, code-1, code-2, code-3, code-5, code-6, code-9, pair-codes, pair, image, category-of, in-pair, Coded, coded, not-coded, seek, code-numbered}
@@ -132,3 +134,11 @@ bits-turned-twice a b (x ∷ bits) = ap₂ _∷_ (just-one-joined a b x) (bits-t
 pub bits-not-turned : (bits : List Bool) → map (just-one false) bits ≡ bits
 bits-not-turned [] = refl
 bits-not-turned (x ∷ bits) = ap (_∷_ x) (bits-not-turned bits)
+
+-- ---- the table in code
+
+-- THE TABLE'S RULE, over every row at once: a list that f made has at each index what f gives there
+pub table-rule {ℓ} : {A : Type 0} {B : Type ℓ} (f : A → B) (xs : List A) (other : B) (last : A) (i : ℕ) → i < length xs → getD (map f xs) i other ≡ f (getD xs i last)
+table-rule f [] other last i l = absurd (omega arith)
+table-rule f (x ∷ xs) other last zero l = refl
+table-rule f (x ∷ xs) other last (suc i) l = table-rule f xs other last i (omega arith)

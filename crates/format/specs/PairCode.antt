@@ -4,7 +4,10 @@ use Prim.Native.Nat.{ℕ}
 use mathlib.Core.Bool.{Bool, true, false, _||_}
 use mathlib.Core.List.{List, [], _∷_}
 use lib.Dec.{eqb}
+use lib.ListN.{getD}
 use Rattle.format.specs.declared.Pair.{Pair}
+use Rattle.format.specs.declared.PairFound.{PairFound}
+use Rattle.format.specs.declared.PairFound.the-variants as known
 use Rattle.format.specs.Base.{pick}
 
 pub data PairCode : Type 0 where
@@ -49,3 +52,14 @@ seek number (c ∷ cs) = pick (eqb number (pair c .code)) (coded c) (seek number
 
 unfoldable pub code-numbered : ℕ → Coded
 code-numbered number = seek number pair-codes
+
+-- the table in code: its rows in the codes' order, and the row of a code byte
+abbrev pub pair-at : ℕ → Pair
+pair-at i = pair (getD pair-codes i code-9)
+
+abbrev pub as-found : Coded → PairFound
+as-found (coded c) = known.Known (pair c)
+as-found not-coded = known.Unknown
+
+abbrev pub found : ℕ → PairFound
+found number = as-found (code-numbered number)
