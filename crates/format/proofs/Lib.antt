@@ -25,3 +25,11 @@ pub mod FlipBodiesLaws
 pub mod FlipLaws
 pub mod WriteReadLaws
 pub mod Refusals
+pub mod ByIndex
+pub mod PlaceLaws
+pub mod StartLaws
+pub mod SevenLaws
+pub mod HeaderRefusals
+pub mod Refuses
+pub mod UnusedBits
+pub mod RefusalsByIndex
