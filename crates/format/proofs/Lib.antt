@@ -33,3 +33,4 @@ pub mod HeaderRefusals
 pub mod Refuses
 pub mod UnusedBits
 pub mod RefusalsByIndex
+pub mod CallRefusals

@@ -48,8 +48,14 @@ work-after N number work = pick (keeps-work number) work (replicate N 0 ++ drop 
 abbrev pub samples-of : ℕ → List ℕ → ℕ
 samples-of K file = given (λ (l : Layout). l .samples) 0 (read-layout K file)
 
--- 01: 10, "a lent buffer of wrong size"; "Outputs and the work area need at least N bytes, a flip set exactly ceil(M/8)"
--- The header check, then a rule on the layout, then what comes next.
+-- 01: "Outputs and the work area need at least N bytes, a flip set exactly ceil(M/8)"
+abbrev pub holds-row : List ℕ → Layout → Bool
+holds-row buffer l = leb (l .samples) (length buffer)
+
+abbrev pub holds-set : List ℕ → Layout → Bool
+holds-set set l = eqb (length set) ((length (l .bodies) + 7) / 8)
+
+-- the header check; 10, "a lent buffer of wrong size"; then what comes next
 abbrev pub with-layout : {A : Type 0} → ℕ → List ℕ → (Layout → Bool) → (Layout → Out A) → Out A
 with-layout K file sized next = bind (read-layout K file) (λ l left. need (sized l) 10 0 (next l))
 
@@ -89,7 +95,7 @@ abbrev pub checked : ℕ → Layout → Out Layout
 checked K l = map-out (λ (bodies : List Body). l) (read-all K l)
 
 abbrev pub check-out : ℕ → List ℕ → List ℕ → Out Layout
-check-out K file work = with-layout K file (λ (l : Layout). leb (l .samples) (length work)) (checked K)
+check-out K file work = with-layout K file (holds-row work) (checked K)
 
 unfoldable pub check-call : ℕ → List ℕ → List ℕ → Checked
 check-call K file work = record {
@@ -115,8 +121,7 @@ read-left (done.Refused number place) output work = record { refusal = number; p
 
 abbrev pub read-out : ℕ → List ℕ → FileVariant → List ℕ → List ℕ → Out (List ℕ)
 read-out K file v output work =
-    with-layout K file (λ (l : Layout). leb (l .samples) (length output) && leb (l .samples) (length work)) (λ (l : Layout).
-    need-variant v l (read-variant K l v))
+    with-layout K file (λ (l : Layout). holds-row output l && holds-row work l) (λ (l : Layout). need-variant v l (read-variant K l v))
 
 -- 01: "A read changes the output's first N bytes and no others."
 unfoldable pub read-call : ℕ → List ℕ → FileVariant → List ℕ → List ℕ → Read
@@ -139,8 +144,7 @@ lookup-left (lookup.Refused number place) work = record { refusal = number; plac
 
 abbrev pub lookup-out : ℕ → List ℕ → FileVariant → ℕ → List ℕ → Out (List ℕ)
 lookup-out K file v sample work =
-    with-layout K file (λ (l : Layout). leb (l .samples) (length work)) (λ (l : Layout).
-    need-variant v l (need (ltb sample (l .samples)) 11 0 (read-variant K l v)))
+    with-layout K file (holds-row work) (λ (l : Layout). need-variant v l (need (ltb sample (l .samples)) 11 0 (read-variant K l v)))
 
 -- 01: "a lookup gives the category (0 on a refusal)"
 unfoldable pub lookup-call : ℕ → List ℕ → FileVariant → ℕ → List ℕ → Lookup
@@ -217,7 +221,7 @@ flip-left (done.Refused number place) file work = record { refusal = number; pla
 -- 01: "For flips 21 comes next. Then records ... a flip ... make[s] the whole-file check"
 abbrev pub flip-out : ℕ → List ℕ → List ℕ → List ℕ → Out Layout
 flip-out K file set work =
-    with-layout K file (λ (l : Layout). eqb (length set) ((length (l .bodies) + 7) / 8) && leb (l .samples) (length work)) (λ (l : Layout).
+    with-layout K file (λ (l : Layout). holds-set set l && holds-row work l) (λ (l : Layout).
     need (eqb (past-last (length (l .bodies)) set) 0) 21 0 (checked K l))
 
 unfoldable pub flip-call : ℕ → List ℕ → List ℕ → List ℕ → Flipped
