@@ -12,11 +12,10 @@ use native.Mathlib.Omega.{arith}
 use borrow.Author.Tests.{eq-eqb}
 use Rattle.format.specs.declared.FileVariant.{FileVariant}
 use Rattle.format.specs.declared.BlockVariant.{BlockVariant}
-use Rattle.format.specs.Base.{pick}
 use Rattle.format.specs.Track.{leans}
-use Rattle.format.specs.Variant.{file-variant, block-variant, block-of, in-block, nearest, anchor}
+use Rattle.format.specs.Variant.{file-variant, block-of, in-block, nearest, anchor}
 use Rattle.format.specs.Layout.{type-allowed, TypesAllowed}
-use Rattle.format.proofs.Rules.{by-test, split}
+use Rattle.format.proofs.Rules.{never-both, by-test, split}
 
 -- ---- what an anchor is
 
@@ -27,15 +26,11 @@ pub record IsAnchor (types : List ℕ) (block-start v w : ℕ) : Type 0 where
   pub stands : leans (getD types w 0) ≡ false
   pub between : (u : ℕ) → w < u → u < v → leans (getD types u 0) ≡ true
 
--- a test has one outcome
-pub not-both : {X : Type 0} {t : Bool} → t ≡ false → t ≡ true → X
-not-both p q = absurd (let n : _≡_ {A = ℕ} 0 1 = cc in omega arith)
-
 -- two anchors of one variant are one
 pub anchor-unique : (types : List ℕ) (block-start v w x : ℕ) → IsAnchor types block-start v w → IsAnchor types block-start v x → w ≡ x
 anchor-unique types block-start v w x a b =
-    split w x (λ h. split x w (λ g. omega arith) (λ g. not-both (b .stands) (a .between x g (b .before))))
-    (λ g. not-both (a .stands) (b .between w g (a .before)))
+    split w x (λ h. split x w (λ g. omega arith) (λ g. never-both (a .between x g (b .before)) (b .stands)))
+    (λ g. never-both (b .between w g (a .before)) (a .stands))
 
 -- past a leaning variant the anchor is the same
 past-leaning : (types : List ℕ) (block-start v w : ℕ) → leans (getD types v 0) ≡ true → IsAnchor types block-start v w → IsAnchor types block-start (suc v) w
@@ -59,7 +54,7 @@ nearest-is types (suc i) s p =
     (λ t. past-standing types 0 i zero-le t)
   where
     down : (i : ℕ) → leans (getD types i 0) ≡ true → (zero < i → IsAnchor types 0 i (nearest types i .0)) → IsAnchor types 0 (suc i) (nearest types i .0)
-    down zero t k = not-both s t
+    down zero t k = never-both t s
     down (suc i) t k = past-leaning types 0 (suc i) (nearest types (suc i) .0) t (k (omega arith))
 
 -- from a block's own types to the file's
@@ -92,7 +87,7 @@ first-stands i type e h = go (ltb type 8) (eqb type 5) (leans type) (simp (eq-eq
     go a b false h = refl
     go true false true h = sym h
     go true true true h = sym h
-    go false b true h = not-both refl h
+    go false b true h = never-both h refl
 
 module _ (K : ℕ) (types : List ℕ) (p : zero < K) (h : TypesAllowed K (file-variant 0) types) where
   -- a variant at the start of a block stands
@@ -102,7 +97,7 @@ module _ (K : ℕ) (types : List ℕ) (p : zero < K) (h : TypesAllowed K (file-v
 
   -- a leaning variant is not the first of its block
   pub leaning-is-later : (v : FileVariant) → v .0 < length types → leans (getD types (v .0) 0) ≡ true → zero < in-block K v .0
-  leaning-is-later v l t = split (v .0 % K) 0 (λ z. not-both (stands-at (v .0) l (omega arith)) t) (λ z. z)
+  leaning-is-later v l t = split (v .0 % K) 0 (λ z. never-both t (stands-at (v .0) l (omega arith))) (λ z. z)
 
   -- the anchor of a leaning variant is one
   pub anchor-is : (v : FileVariant) → v .0 < length types → leans (getD types (v .0) 0) ≡ true → IsAnchor types (block-of K v * K) (v .0) (anchor K types v .0)

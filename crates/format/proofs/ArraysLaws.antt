@@ -1,17 +1,17 @@
 -- The fixed fields with rules 2 to 5, and the header's arrays: lengths, read back, as written.
 -- Assumes nothing.
 use mathlib.Core.Path.{_≡_, refl, sym, ap, _∙_}
-use Prim.Native.Nat.{ℕ, zero, suc, _+_, _*_, _^_, _≤_, _<_}
+use Prim.Native.Nat.{ℕ, zero, _^_, _<_}
 use mathlib.Core.Bool.{Bool, true, false}
-use mathlib.Core.List.{List, [], _∷_, _++_, append-assoc}
+use mathlib.Core.List.{List, [], _++_, append-assoc}
 use lib.ListN.{length, length-append}
 use lib.Dec.{eqb}
 use native.Mathlib.Omega.{arith}
 use borrow.Author.Tests.{eqb-true, eq-eqb}
-use Rattle.format.specs.Base.{pick, Below, Bytes, Out, ok, refuse}
+use Rattle.format.specs.Base.{Below, Bytes, Out, ok}
 use Rattle.format.specs.Numbers.{number-bytes, read-number, numbers-bytes, read-numbers}
-use Rattle.format.specs.Packed.{one, packed, packed-size, read-packed}
-use Rattle.format.specs.Layout.{Fixed, fixed-bytes, most-samples, most-variants, from-1-to, plain-mode, mode-covered, form-allowed, form-of, flag-count, Columns, Arrays, sum, block-count, block-sizes, blocks-bytes, blocked-bytes, arrays-bytes, blocked-size, arrays-size, plain-size, FixedObeys, ColumnsFit, ColumnsPlain, ColumnsObey}
+use Rattle.format.specs.Packed.{one, read-packed}
+use Rattle.format.specs.Layout.{Fixed, fixed-bytes, most-samples, most-variants, from-1-to, plain-mode, mode-covered, form-allowed, form-of, flag-count, Columns, Arrays, sum, block-count, block-sizes, blocks-bytes, blocked-bytes, arrays-bytes, blocked-size, arrays-size, FixedObeys, ColumnsFit, ColumnsPlain, ColumnsObey}
 use Rattle.format.specs.Header.{read-fixed, need-fixed, read-blocks, read-blocked, plain-arrays, read-arrays}
 use Rattle.format.proofs.Rules.{Holds, by-test, by-need, by-bind, by-map, below-after}
 use Rattle.format.proofs.NumbersLaws.{IsNumber, number-read-back, number-as-written, number-length, AreNumbers, numbers-read-back, numbers-as-written, numbers-length}
@@ -20,6 +20,7 @@ use Rattle.format.proofs.BlocksLaws.{sizes-sum, blocks-length, no-eleme
 
 -- ---- the first twelve bytes
 
+-- the fixed fields are twelve bytes
 pub fixed-length : (f : Fixed) → length (fixed-bytes f) ≡ 12
 unfolding fixed-bytes
 fixed-length f = simp (length-append, number-length)
@@ -82,6 +83,7 @@ pub record AreArrays (K : ℕ) (f : Fixed) (bs : List ℕ) (a : Arrays) (left : 
   pub offsets : OffsetsFit K f (a .offsets)
   pub columns : ColumnsObey f (a .columns)
 
+-- mode 0x10: offsets and columns that were read fit, and are what was written
 blocked-as-written : (K end : ℕ) (f : Fixed) (bs : List ℕ) → zero < K → Bytes bs → plain-mode f ≡ false → Holds (AreArrays K f bs) (read-blocked K end f bs)
 unfolding read-blocked blocked-bytes arrays-bytes
 blocked-as-written K end f bs p y t =
@@ -111,6 +113,7 @@ arrays-as-written K end f bs p y =
     }))
     (λ t. blocked-as-written K end f bs p y t)
 
+-- mode 0x10: the length of the arrays
 blocked-length : (K : ℕ) (f : Fixed) (a : Arrays) → OffsetsFit K f (a .offsets) → sum (block-sizes K f) ≡ f .variants → AllFit f (a .columns)
     → length (blocked-bytes K f a) ≡ blocked-size K f
 unfolding blocked-bytes blocked-size
@@ -123,6 +126,7 @@ blocked-length K f a h q g =
       blocks-length (form-of f) (block-sizes K f) (a .columns .types) (a .columns .lengths) (a .columns .flags) (g .types-count ∙ sym q) (g .lengths-count ∙ sym q) (rw q (g .flags-count)),
     )
 
+-- mode 0x10: arrays that fit are read back
 blocked-read-back : (K end : ℕ) (f : Fixed) (a : Arrays) (left : List ℕ) → OffsetsFit K f (a .offsets) → sum (block-sizes K f) ≡ f .variants → AllFit f (a .columns)
     → read-blocked K end f (blocked-bytes K f a ++ left) ≡ ok a left
 unfolding read-blocked blocked-bytes

@@ -1,17 +1,17 @@
 -- The cut of a file's variants into blocks, and the arrays of the blocks: their lengths, read back, as written.
 -- Assumes nothing.
 use mathlib.Core.Path.{_≡_, refl, sym, ap, _∙_}
-use Prim.Native.Nat.{ℕ, zero, suc, _+_, _-_, _*_, _/_, _^_, _≤_, _<_, zero-le, min}
+use Prim.Native.Nat.{ℕ, zero, suc, _+_, _-_, _*_, _/_, _≤_, _<_}
 use native.Mathlib.Nat.{sub-add-min-cancel, min-comm, lt-div-mul-add, suc-mul, zero-mul}
 use mathlib.Core.Bool.{Bool, true, false}
 use mathlib.Core.List.{List, [], _∷_, _++_, append-assoc, map}
 use lib.ListN.{length, take, drop, length-append, length-drop, take-append-drop}
 use lib.Seq.{take-at, drop-at, length-take-le}
 use native.Mathlib.Omega.{arith}
-use Rattle.format.specs.Base.{pick, Below, Bytes, Out, ok, refuse}
+use Rattle.format.specs.Base.{pick, Bytes, ok}
 use Rattle.format.specs.Numbers.{numbers-bytes, read-numbers}
-use Rattle.format.specs.Packed.{one, limit, packed, packed-size, read-packed}
-use Rattle.format.specs.Layout.{Fixed, plain-mode, Form, form-of, flag-count, Columns, sum, block-count, cut, block-sizes, block-bytes, blocks-bytes, block-size, ColumnsFit}
+use Rattle.format.specs.Packed.{one, packed, read-packed}
+use Rattle.format.specs.Layout.{Fixed, plain-mode, Form, flag-count, Columns, sum, block-count, cut, block-sizes, block-bytes, blocks-bytes, block-size, ColumnsFit}
 use Rattle.format.specs.Header.{with-block, read-blocks}
 use Rattle.format.proofs.Rules.{Holds, by-test, by-bind, by-map, below-after, below-append, below-take, below-drop}
 use Rattle.format.proofs.NumbersLaws.{AreNumbers, numbers-read-back, numbers-as-written, numbers-length}
@@ -55,6 +55,7 @@ flag-count-add form n m = go (form .flags-stored)
     go true = refl
     go false = refl
 
+-- no variants have no flags
 pub flag-count-zero : (form : Form) → flag-count form 0 ≡ 0
 flag-count-zero form = by-test (λ (n : ℕ). n ≡ 0) (form .flags-stored) (λ t. refl) (λ t. refl)
 
@@ -63,6 +64,7 @@ pub flags-taken : (form : Form) (n m : ℕ) (flags : List ℕ) → length flags 
     → length (take (flag-count form n) flags) ≡ flag-count form n
 flags-taken form n m flags e = length-take-le (flag-count form n) flags (omega (arith, flag-count-add form n m))
 
+-- and those after them
 pub flags-dropped : (form : Form) (n m : ℕ) (flags : List ℕ) → length flags ≡ flag-count form (n + m)
     → length (drop (flag-count form n) flags) ≡ flag-count form m
 flags-dropped form n m flags e = length-drop (flag-count form n) flags ∙ omega (arith, flag-count-add form n m)

@@ -52,13 +52,16 @@ lengths-place K f block = block-place K f block + packed-size (form-of f .type-b
 
 -- ---- what code computes, from the fixed fields and the file's bytes
 
+-- the offset of a block
 unfoldable pub offset-at : List ℕ → ℕ → ℕ
 offset-at bs block = number-at 8 (drop (12 + 8 * block) bs)
 
+-- the type of a variant, by the byte that holds it
 unfoldable pub type-at : ℕ → Fixed → List ℕ → FileVariant → ℕ
 type-at K f bs v =
     getD bs (type-place K f v) 0 / limit (form-of f .type-bits) ^ (in-block K v .0 % suc (more (form-of f .type-bits))) % limit (form-of f .type-bits)
 
+-- the length of a variant's record
 unfoldable pub length-at : ℕ → Fixed → List ℕ → FileVariant → ℕ
 length-at K f bs v = number-at (form-of f .length-width) (drop (lengths-place K f (block-of K v) + form-of f .length-width * in-block K v .0) bs)
 
@@ -75,6 +78,7 @@ unfolding number-at number-bytes
 number-at-is zero n left h = sym (lt-one (rw pow-zero at h))
 number-at-is (suc w) n left h = simp (number-at-is w (n / 256) left (div-lt-iff-lt-mul (lit< tt) .1 (rw pow-suc at h))) (omega arith)
 
+-- past a number stands what follows it
 past-number : (w n k : ℕ) (left : List ℕ) → drop (w + k) (number-bytes w n ++ left) ≡ drop k left
 past-number w n k left =
     let e : w + k ≡ length (number-bytes w n) + k = ap (λ (x : ℕ). x + k) (sym (number-length w n)) in

@@ -1,17 +1,17 @@
 -- The header check accepts exactly the bytes of a layout that obeys.
 -- Assumes nothing.
 use mathlib.Core.Path.{_≡_, refl, sym, ap, _∙_, subst}
-use Prim.Native.Nat.{ℕ, zero, suc, _+_, _^_, _≤_, _<_}
+use Prim.Native.Nat.{ℕ, zero, _<_}
 use mathlib.Core.Bool.{true}
 use mathlib.Core.Logic.{_↔_}
-use mathlib.Core.List.{List, [], _∷_, _++_}
+use mathlib.Core.List.{List, [], _++_}
 use lib.ListN.{length, length-append, length-map}
 use lib.Dec.{leb, lit<}
 use native.Mathlib.Omega.{arith}
 use borrow.Author.Tests.{le-leb}
-use Rattle.format.specs.Base.{Bytes, Out, ok, refuse, numbered}
+use Rattle.format.specs.Base.{Bytes, ok, numbered}
 use Rattle.format.specs.Variant.{file-variant}
-use Rattle.format.specs.Layout.{Fixed, fixed-bytes, most-samples, most-variants, Columns, Arrays, block-sizes, arrays-bytes, arrays-size, header-end, Layout, fixed-of, body-lengths, columns-of, block-starts, arrays-of, joined, in-parts, layout-bytes, FixedObeys, ColumnsObey, TypesAllowed, LayoutObeys}
+use Rattle.format.specs.Layout.{Fixed, fixed-bytes, most-samples, most-variants, Arrays, block-sizes, arrays-bytes, arrays-size, header-end, Layout, fixed-of, body-lengths, columns-of, block-starts, arrays-of, joined, in-parts, layout-bytes, FixedObeys, ColumnsObey, TypesAllowed, LayoutObeys}
 use Rattle.format.specs.Header.{read-fixed, read-arrays, split-bodies, layout-of, read-bodies, read-layout}
 use Rattle.format.proofs.Rules.{Holds, by-need, by-bind, by-map, by-numbered, below-after}
 use Rattle.format.proofs.ArraysLaws.{fixed-read-back, AreFixed, fixed-as-written, by-fixed, fixed-pass, AreArrays, arrays-as-written, same-arrays, arrays-length, arrays-read-back}
@@ -19,6 +19,7 @@ use Rattle.format.proofs.OffsetsLaws.{by-types, types-pass, by-offsets,
 
 -- ---- read back
 
+-- types and offsets pass, and the bodies are read back
 records-read-back : (K end : ℕ) (l : Layout) → LayoutObeys K l → read-bodies K end (fixed-of l) (arrays-of K l) (joined (l .bodies)) ≡ ok l []
 unfolding read-bodies
 records-read-back K end l h =
@@ -48,10 +49,12 @@ pub record IsLayout (K : ℕ) (bs : List ℕ) (l : Layout) (left : List ℕ) : T
   pub obeys : LayoutObeys K l
   pub written : bs ≡ layout-bytes K l
 
+-- fixed fields put together again from equal parts
 same-fixed : (f : Fixed) (magic variants : ℕ) → f .magic ≡ magic → f .variants ≡ variants
     → _≡_ {A = Fixed} (record { magic = magic; mode = f .mode; variants = variants; samples = f .samples; form = f .form }) f
 same-fixed f magic variants e₁ e₂ = rw (← e₁, ← e₂)
 
+-- a layout whose fixed fields and arrays are those read is what was written
 is-layout : (K : ℕ) (bs left : List ℕ) (l : Layout) (f : Fixed) (a : Arrays) → fixed-of l ≡ f → arrays-of K l ≡ a → FixedObeys f → ColumnsObey f (a .columns)
     → TypesAllowed K (file-variant 0) (l .types) → bs ≡ fixed-bytes f ++ (arrays-bytes K f a ++ joined (l .bodies)) → left ≡ [] → IsLayout K bs l left
 unfolding layout-bytes in-parts
@@ -66,6 +69,7 @@ is-layout K bs left l f a e k u c g w z = record {
       ∙ ap (λ (x : Arrays). fixed-bytes (fixed-of l) ++ (arrays-bytes K (fixed-of l) x ++ joined (l .bodies))) (sym k);
 }
 
+-- from arrays that were read to the layout
 records-as-written : (K end : ℕ) (f : Fixed) (a : Arrays) (bs left₁ left : List ℕ) → zero < K → FixedObeys f → bs ≡ fixed-bytes f ++ left₁ → AreArrays K f left₁ a left
     → Holds (IsLayout K bs) (read-bodies K end f a left)
 unfolding read-bodies

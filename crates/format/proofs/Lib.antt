@@ -34,3 +34,8 @@ pub mod Refuses
 pub mod UnusedBits
 pub mod RefusalsByIndex
 pub mod CallRefusals
+pub mod RefusalsByIndexArrays
+pub mod RefusalsByIndexRecords
+pub mod RefusalsByIndexTurns
+pub mod AnchorByIndex
+pub mod BytesLaws

@@ -40,7 +40,7 @@ unfolding number-bytes
 number-length zero n = refl
 number-length (suc w) n = ap suc (number-length w (n / 256))
 
-number-are-bytes : (w n : ℕ) → Bytes (number-bytes w n)
+pub number-are-bytes : (w n : ℕ) → Bytes (number-bytes w n)
 unfolding number-bytes
 number-are-bytes zero n = tt
 number-are-bytes (suc w) n = (omega arith, number-are-bytes w (n / 256))

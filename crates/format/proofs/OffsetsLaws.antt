@@ -1,20 +1,20 @@
 -- Rules 8 and 9: the types, the block offsets, the bodies; and that an offset fits its eight bytes.
 -- Assumes nothing.
-use mathlib.Core.Path.{_≡_, refl, sym, ap, _∙_}
-use Prim.Native.Nat.{ℕ, zero, suc, _+_, _-_, _*_, _/_, _%_, _^_, _≤_, _<_, zero-le}
+use mathlib.Core.Path.{_≡_, refl, ap, _∙_}
+use Prim.Native.Nat.{ℕ, zero, suc, _+_, _-_, _*_, _/_, _^_, _≤_, _<_, zero-le}
 use native.Mathlib.Nat.{pow-le-pow-right, mul-le-mul-left, div-le-self, mul-le-mul-right, div-le-of-le-mul, le-refl, suc-mul, mul-suc}
 use mathlib.Core.Bool.{Bool, true, false, _&&_, _||_}
 use mathlib.Core.List.{List, [], _∷_, _++_, map}
-use lib.ListN.{length, take, drop, length-map, length-replicate}
-use lib.Dec.{eqb, ltb, leb, lit<, lit≤}
+use lib.ListN.{length, take, drop, length-replicate}
+use lib.Dec.{eqb, leb, lit<, lit≤}
 use native.Mathlib.Omega.{arith}
 use borrow.Author.Tests.{leb-true, eqb-true, eq-eqb}
 use Rattle.format.specs.declared.FileVariant.{FileVariant}
-use Rattle.format.specs.Base.{pick, Below, Out, ok, refuse}
+use Rattle.format.specs.Base.{pick, Below, Out, ok}
 use Rattle.format.specs.Numbers.{read-bytes}
 use Rattle.format.specs.Packed.{Bits, one, two, four, eight, more, packed-size}
 use Rattle.format.specs.Variant.{next-variant, in-block}
-use Rattle.format.specs.Layout.{Fixed, most-samples, most-variants, from-1-to, plain-mode, mode-covered, Form, form-of, flag-count, Columns, sum, block-count, cut, block-sizes, block-size, blocked-size, arrays-size, header-end, Layout, fixed-of, body-lengths, columns-of, block-starts, arrays-of, joined, plain-size, ColumnsFit, ColumnsPlain, ColumnsObey, type-allowed, TypesAllowed, LayoutObeys}
+use Rattle.format.specs.Layout.{Fixed, most-variants, from-1-to, plain-mode, mode-covered, Form, form-of, flag-count, Columns, sum, block-count, cut, block-sizes, block-size, blocked-size, arrays-size, header-end, Layout, fixed-of, body-lengths, columns-of, block-starts, arrays-of, joined, plain-size, ColumnsPlain, ColumnsObey, type-allowed, TypesAllowed, LayoutObeys}
 use Rattle.format.specs.Header.{need-types, need-offsets, split-bodies}
 use Rattle.format.proofs.Rules.{Holds, by-test, by-need, by-bind, by-map}
 use Rattle.format.proofs.NumbersLaws.{bytes-read-back, AreBytes, bytes-as-written}
@@ -57,6 +57,7 @@ offsets-pass place (offset ∷ offsets) next = simp (eq-eqb offset offset refl) 
 
 -- ---- rule 9, the bodies
 
+-- joined bodies are split again
 pub bodies-read-back : (end : ℕ) (bodies : List (List ℕ)) → split-bodies end (map length bodies) (joined bodies) ≡ ok bodies []
 unfolding split-bodies joined
 bodies-read-back end [] = refl
@@ -67,6 +68,7 @@ pub record AreBodies (lengths bs : List ℕ) (bodies : List (List ℕ)) (left : 
   pub written : bs ≡ joined bodies
   pub lengths-same : map length bodies ≡ lengths
 
+-- what was split are the bodies joined, to the last byte
 pub bodies-as-written : (end : ℕ) (lengths bs : List ℕ) → Holds (AreBodies lengths bs) (split-bodies end lengths bs)
 unfolding split-bodies joined
 bodies-as-written end [] [] = record { ended = refl; written = refl; lengths-same = refl }
@@ -78,6 +80,7 @@ bodies-as-written end (n ∷ ns) bs =
 
 -- ---- how many there are
 
+-- a start for each number of variants
 pub starts-length : (start : ℕ) (ns lengths : List ℕ) → length (block-starts start ns lengths) ≡ length ns
 unfolding block-starts
 starts-length start [] lengths = refl
@@ -105,22 +108,26 @@ types-counted f c h = go (plain-mode f) h
 
 -- ---- sums
 
+-- a sum is that of a first part and the rest
 pub sum-split : (n : ℕ) (ns : List ℕ) → sum (take n ns) + sum (drop n ns) ≡ sum ns
 unfolding sum
 sum-split zero ns = omega arith
 sum-split (suc n) [] = refl
 sum-split (suc n) (x ∷ ns) = omega (arith, sum-split n ns)
 
+-- the sum of two lists joined
 pub sum-append : (xs ys : List ℕ) → sum (xs ++ ys) ≡ sum xs + sum ys
 unfolding sum
 sum-append [] ys = omega arith
 sum-append (x ∷ xs) ys = omega (arith, sum-append xs ys)
 
+-- a sum of numbers below m
 sum-below : (m : ℕ) (ns : List ℕ) → Below m ns → sum ns ≤ length ns * m
 unfolding sum
 sum-below m [] h = zero-le
 sum-below m (x ∷ ns) h = omega (arith, sum-below m ns (h .1), h .0, suc-mul (length ns) m)
 
+-- starts are below what all records end below
 starts-below : (m start : ℕ) (ns lengths : List ℕ) → start + sum lengths < m → Below m (block-starts start ns lengths)
 unfolding block-starts
 starts-below m start [] lengths h = tt
@@ -129,6 +136,7 @@ starts-below m start (n ∷ ns) lengths h =
 
 -- ---- an offset fits its eight bytes
 
+-- both sides of a conjunction hold
 and-left : (a b : Bool) → a && b ≡ true → a ≡ true
 and-left true b e = refl
 and-left false b e = absurd (let n : _≡_ {A = ℕ} 0 1 = cc in omega arith)
@@ -137,9 +145,11 @@ and-right : (a b : Bool) → a && b ≡ true → b ≡ true
 and-right true b e = e
 and-right false b e = absurd (let n : _≡_ {A = ℕ} 0 1 = cc in omega arith)
 
+-- a number in its range is at most the most
 pub from-1-to-most : (most n : ℕ) → from-1-to most n ≡ true → n ≤ most
 from-1-to-most most n e = leb-true n most (and-right (leb 1 n) (leb n most) e)
 
+-- and not zero
 pub from-1-to-positive : (most n : ℕ) → from-1-to most n ≡ true → zero < n
 from-1-to-positive most n e = leb-true 1 n (and-left (leb 1 n) (leb n most) e)
 
@@ -151,6 +161,7 @@ mode-byte mode e = go (eqb mode 0x02) (eqb mode 0x10) (eqb-true mode 0x02) (eqb-
     go true b f g q = omega (arith, f refl)
     go false b f g q = omega (arith, g q)
 
+-- a packed array is not longer than its numbers and seven
 packed-small : (bits : Bits) (n : ℕ) → packed-size bits n ≤ n + 7
 packed-small bits n = omega (arith, div-le-self (n + more bits) (suc (more bits)), most bits)
   where
@@ -160,6 +171,7 @@ packed-small bits n = omega (arith, div-le-self (n + more bits) (suc (more bits)
     most four = lit≤ tt
     most eight = lit≤ tt
 
+-- the arrays of a block are not long
 block-small : (form : Form) (n : ℕ) → form .length-width ≤ 4 → block-size form n ≤ 6 * n + 14
 unfolding block-size
 block-small form n w =
@@ -171,16 +183,19 @@ block-small form n w =
       by-test (λ (k : ℕ). k ≤ n) (form .flags-stored) (λ t. le-refl n) (λ t. zero-le),
     )
 
+-- nor those of all blocks
 blocks-small : (form : Form) (ns : List ℕ) → form .length-width ≤ 4 → sum (map (block-size form) ns) ≤ 6 * sum ns + 14 * length ns
 unfolding sum
 blocks-small form [] w = zero-le
 blocks-small form (n ∷ ns) w = omega (arith, block-small form n w, blocks-small form ns w)
 
+-- rounded up, a quotient is at most its dividend
 few-blocks : (K n : ℕ) → zero < K → zero < n → (n + (K - 1)) / K ≤ n
 few-blocks zero n p q = absurd (omega arith)
 few-blocks (suc k) zero p q = absurd (omega arith)
 few-blocks (suc k) (suc n) p q = div-le-of-le-mul (suc k) (omega (arith, suc-mul k (suc n), mul-suc k n))
 
+-- a length has at most four bytes
 pub length-width-most : (f : Fixed) → form-of f .length-width ≤ 4
 length-width-most f = omega arith
 

@@ -4,15 +4,13 @@ use mathlib.Core.Path.{_≡_, refl, sym, ap, _∙_}
 use Prim.Native.Nat.{ℕ, zero, suc, _+_, _-_, _*_, _/_, _%_, _^_, _≤_, _<_, min}
 use native.Mathlib.Nat.{mod-lt, div-add-mod', le-min, zero-mul, suc-mul, mul-le-mul-right, min-eq-left, min-le-right, sub-zero}
 use mathlib.Core.Bool.{false}
-use mathlib.Core.List.{List, [], _∷_, _++_, append-assoc}
+use mathlib.Core.List.{List, _++_, append-assoc}
 use lib.ListN.{length, take, drop, getD, length-drop}
 use lib.Seq.{drop-append-add, drop-at, drop-drop, getD-drop, getD-take, length-take-le}
 use native.Mathlib.Omega.{arith}
 use Rattle.format.specs.declared.FileVariant.{FileVariant}
-use Rattle.format.specs.Base.{Below}
 use Rattle.format.specs.Numbers.{numbers-bytes}
 use Rattle.format.specs.Packed.{one, limit, more, packed, packed-size}
-use Rattle.format.specs.Variant.{block-of, in-block}
 use Rattle.format.specs.Layout.{Fixed, fixed-bytes, plain-mode, Form, form-of, flag-count, Arrays, block-count, cut, block-sizes, block-bytes, blocks-bytes, blocked-bytes, arrays-bytes, block-size, Layout, fixed-of, arrays-of, in-parts, LayoutObeys}
 use Rattle.format.specs.Header.{block-place, type-place}
 use Rattle.format.proofs.Rules.{split, below-take, below-drop}
@@ -78,6 +76,7 @@ pub record Known (K : ℕ) (f : Fixed) (a : Arrays) : Type 0 where
 pub known : (K : ℕ) (l : Layout) → zero < K → LayoutObeys K l → plain-mode (fixed-of l) ≡ false → Known K (fixed-of l) (arrays-of K l)
 known K l p h e = record { some = p; blocked = e; offsets-fit = offsets-fit K l p h; all-fit = simp e at (h .columns) }
 
+-- the parts of a file in mode 0x10, one after another
 pub in-parts-blocked : (K : ℕ) (f : Fixed) (a : Arrays) (records : List ℕ) → plain-mode f ≡ false
     → in-parts K f a records
     ≡ fixed-bytes f ++ (numbers-bytes 8 (a .offsets) ++ (blocks-bytes (form-of f) (block-sizes K f) (a .columns .types) (a .columns .lengths) (a .columns .flags) ++ records))
@@ -112,6 +111,7 @@ pub record TwoNumbers (K M v : ℕ) : Type 0 where
   pub inside : v / K * K < M
   pub counted : v % K < min K (M - v / K * K)
 
+-- a variant of the file has them
 pub two-numbers : (K M v : ℕ) → zero < K → v < M → TwoNumbers K M v
 two-numbers K M v p l =
     let e : v / K * K + v % K ≡ v = div-add-mod' v K in
@@ -122,6 +122,7 @@ two-numbers K M v p l =
 pub column-length : (M start n : ℕ) (xs : List ℕ) → length xs ≡ M → n ≤ M - start → length (take n (drop start xs)) ≡ n
 column-length M start n xs e l = length-take-le n (drop start xs) (rw (length-drop, e) l)
 
+-- one element of it
 column-at : (K v n : ℕ) (xs : List ℕ) → v / K * K + v % K ≡ v → v % K < n → getD (take n (drop (v / K * K) xs)) (v % K) 0 ≡ getD xs v 0
 column-at K v n xs e l =
     getD-take n (drop (v / K * K) xs) (v % K) 0 l ∙ getD-drop (v / K * K) xs (v % K) 0 ∙ ap (λ (z : ℕ). getD xs z 0) e

@@ -1,39 +1,43 @@
 -- The header check by index, for every list of bytes: refusals 1 to 6. Each law is one test of the code, and what the definition then gives.
 -- Assumes nothing.
-use mathlib.Core.Path.{_≡_, refl, sym, ap, _∙_, subst}
-use Prim.Native.Nat.{ℕ, zero, suc, _+_, _-_, _*_, _/_, _%_, _^_, _≤_, _<_, zero-le, min}
+use mathlib.Core.Path.{_≡_, refl, ap, _∙_, subst}
+use Prim.Native.Nat.{ℕ, zero, suc, _+_, _-_, _*_, _/_, _%_, _≤_, _<_, zero-le, min}
 use native.Mathlib.Nat.{zero-mul, suc-mul, mul-zero, mul-suc, div-eq-of-lt, mod-eq-of-lt, div-eq-sub-div, mod-eq-sub-mod, min-eq-left, min-eq-right, zero-div, zero-mod}
-use mathlib.Core.Bool.{Bool, true, false}
+use mathlib.Core.Bool.{true, false}
 use mathlib.Core.List.{List, [], _∷_, _++_, map}
-use lib.ListN.{length, drop, getD, length-drop}
+use lib.ListN.{length, drop, length-append, length-drop}
 use lib.Seq.{drop-drop}
-use lib.Dec.{leb}
+use lib.Dec.{leb, lit<}
 use native.Mathlib.Omega.{arith}
 use borrow.Author.Tests.{lt-leb}
-use Rattle.format.specs.Base.{pick, Bytes, Out, ok, refuse, bind, map-out, need, numbered}
+use Rattle.format.specs.Base.{Bytes, Out, ok, refuse, bind, need, numbered}
 use Rattle.format.specs.Numbers.{read-number, read-numbers}
 use Rattle.format.specs.Packed.{one, more, packed-size}
-use Rattle.format.specs.Layout.{Fixed, fixed-bytes, plain-mode, Form, form-of, flag-count, sum, block-count, cut, block-sizes, block-size, blocked-size, arrays-size, Layout}
+use Rattle.format.specs.Layout.{Fixed, fixed-bytes, most-samples, most-variants, plain-mode, Form, form-of, flag-count, sum, block-count, cut, block-size, blocked-size, arrays-bytes, arrays-size, Layout, fixed-of, arrays-of, joined, in-parts, layout-bytes, FixedObeys, LayoutObeys}
 use Rattle.format.specs.Header.{read-fixed, need-fixed, read-arrays, read-bodies, read-layout}
 use Rattle.format.proofs.Rules.{Holds, split}
 use Rattle.format.proofs.BlocksLaws.{blocks-hold-all, flag-count-zero}
-use Rattle.format.proofs.ArraysLaws.{AreFixed, fixed-as-written}
+use Rattle.format.proofs.ArraysLaws.{fixed-length, fixed-read-back, AreFixed, fixed-as-written, fixed-pass}
+use Rattle.format.proofs.OffsetsLaws.{from-1-to-most, mode-byte}
 use Rattle.format.proofs.ByIndex.{number-at, numbers-at}
 
 -- ---- numbers that are there, or not
 
+-- a number whose bytes are there is read
 pub number-there : (end w : ℕ) (bs : List ℕ) → w ≤ length bs → read-number end w bs ≡ ok (number-at w bs) (drop w bs)
 unfolding read-number number-at
 number-there end zero bs h = refl
 number-there end (suc w) [] h = absurd (omega arith)
 number-there end (suc w) (b ∷ bs) h = simp (number-there end w bs (omega arith))
 
+-- one whose bytes are not all there is refused
 pub number-short : (end w : ℕ) (bs : List ℕ) → length bs < w → read-number end w bs ≡ refuse 12 end
 unfolding read-number
 number-short end zero bs h = absurd (omega arith)
 number-short end (suc w) [] h = refl
 number-short end (suc w) (b ∷ bs) h = simp (number-short end w bs (omega arith))
 
+-- a row whose bytes are there is read
 pub numbers-there : (end w count : ℕ) (bs : List ℕ) → w * count ≤ length bs → read-numbers end w count bs ≡ ok (numbers-at w count bs) (drop (w * count) bs)
 unfolding read-numbers numbers-at
 numbers-there end w zero bs h = rw mul-zero refl
@@ -53,13 +57,16 @@ fixed-at bs = record {
   form = number-at 1 (drop 11 bs);
 }
 
+-- a field that is there
 later-there : (end w k : ℕ) (bs : List ℕ) → k + w ≤ length bs → read-number end w (drop k bs) ≡ ok (number-at w (drop k bs)) (drop (k + w) bs)
 later-there end w k bs h =
     number-there end w (drop k bs) (rw length-drop (omega arith)) ∙ ap (ok (number-at w (drop k bs))) (drop-drop w k bs)
 
+-- a field that is not all there
 later-short : (end w k : ℕ) (bs : List ℕ) → length bs < k + w → k ≤ length bs → read-number end w (drop k bs) ≡ refuse 12 end
 later-short end w k bs h g = number-short end w (drop k bs) (rw length-drop (omega arith))
 
+-- twelve bytes are read as the fields by index
 pub fixed-there : (end : ℕ) (bs : List ℕ) → 12 ≤ length bs → read-fixed end bs ≡ ok (fixed-at bs) (drop 12 bs)
 unfolding read-fixed fixed-at
 fixed-there end bs h =
@@ -71,6 +78,7 @@ fixed-there end bs h =
       later-there end 1 11 bs (omega arith),
     )
 
+-- fewer than twelve bytes are refused
 fixed-short : (end : ℕ) (bs : List ℕ) → length bs < 12 → numbered 1 (read-fixed end bs) ≡ refuse 1 end
 unfolding read-fixed
 fixed-short end bs h =
@@ -113,14 +121,39 @@ pub refusal-6 : (K : ℕ) (bs : List ℕ) → 12 ≤ length bs → length bs < 1
 unfolding after-fixed
 refusal-6 K bs h l = simp (lt-leb (arrays-size K (fixed-at bs)) (length (drop 12 bs)) (rw length-drop (omega arith)))
 
+-- the form is a byte
+pub form-byte-at : (bs : List ℕ) → Bytes bs → 12 ≤ length bs → fixed-at bs .form < 256
+form-byte-at bs y h =
+    let g : AreFixed bs (fixed-at bs) (drop 12 bs) = subst (Holds (AreFixed bs)) (fixed-there (length bs) bs h) (fixed-as-written (length bs) bs y) in
+    g .form-byte
+
+-- fields that obey pass
+pub passed-2-to-5 : (K : ℕ) (bs : List ℕ) → 12 ≤ length bs → FixedObeys (fixed-at bs) → read-layout K bs ≡ after-fixed K bs
+passed-2-to-5 K bs h g = refusals-2-to-5 K bs h ∙ fixed-pass (fixed-at bs) (after-fixed K bs) g
+
+-- in the bytes of a layout that obeys, the fields are the layout's
+pub fixed-at-layout : (K : ℕ) (l : Layout) → zero < K → LayoutObeys K l → fixed-at (layout-bytes K l) ≡ fixed-of l
+unfolding layout-bytes in-parts
+fixed-at-layout K l p h =
+    let bs : List ℕ = layout-bytes K l in
+    let left : List ℕ = arrays-bytes K (fixed-of l) (arrays-of K l) ++ joined (l .bodies) in
+    let a : read-fixed 0 bs ≡ ok (fixed-of l) left = fixed-read-back 0 (fixed-of l) left (lit< tt) (mode-byte (l .mode) (h .fixed .mode))
+    (omega (arith, from-1-to-most most-variants (length (l .bodies)) (h .fixed .variants)))
+    (omega (arith, from-1-to-most most-samples (l .samples) (h .fixed .samples))) (h .fixed .form-byte) in
+    let b : read-fixed 0 bs ≡ ok (fixed-at bs) (drop 12 bs)
+    = fixed-there 0 bs (omega (arith, length-append (fixed-bytes (fixed-of l)) left, fixed-length (fixed-of l))) in
+    cc
+
 -- ---- how long the arrays are: full blocks and one more
 
+-- a block of no variants has no bytes
 empty-block : (form : Form) → block-size form 0 ≡ 0
 unfolding block-size
 empty-block form =
     let a : (0 + more (form .type-bits)) / suc (more (form .type-bits)) ≡ 0 = div-eq-of-lt (omega arith) in
     simp (a, mul-zero, flag-count-zero)
 
+-- the size of all blocks: the full ones and the rest
 pub blocks-size-closed : (form : Form) (K blocks M : ℕ) → zero < K → M ≤ blocks * K
     → sum (map (block-size form) (cut K blocks M)) ≡ M / K * block-size form K + block-size form (M % K)
 unfolding cut sum

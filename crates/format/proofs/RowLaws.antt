@@ -13,13 +13,9 @@ use Rattle.format.specs.PairCode.{PairCode, category-of}
 use Rattle.format.specs.Track.{Kind, array, paired, against-anchor, against-category, no-kind, kind, leans-kind, leans, Track, plain, one-bit, leaning, sparse, track-kind, off-pair, off-category, off-anchor, rule, Fits, read-kind, apply, track-categories}
 use Rattle.format.specs.Body.{Body, body-type, BodyFits, ended, read-body, body-categories}
 use Rattle.format.specs.File.{next-anchor}
-use Rattle.format.proofs.Rules.{by-test}
+use Rattle.format.proofs.Rules.{never-both, by-test}
 use Rattle.format.proofs.CategoryLaws.{exchange-all-length, exchange-all-below}
 use Rattle.format.proofs.PairLaws.{category-of-below}
-
--- true is not false
-never-both {ℓ} : {X : Type ℓ} {b : Bool} → b ≡ true → b ≡ false → X
-never-both p q = let z : _≡_ {A = ℕ} 0 1 = cc in absurd (omega arith)
 
 -- ---- rows
 

@@ -5,6 +5,7 @@ use Prim.Native.Nat.{ℕ, zero, suc, _≤_, _<_}
 use mathlib.Core.Bool.{Bool, true, false}
 use mathlib.Core.List.{List, [], _∷_, _++_}
 use lib.ListN.{take, drop}
+use native.Mathlib.Omega.{arith}
 use native.Mathlib.Decide.{decLe}
 use native.Mathlib.Nat.{lt-of-not-le}
 use Rattle.format.specs.Base.{pick, Out, ok, refuse, bind, map-out, need, numbered, Below}
@@ -40,6 +41,10 @@ by-numbered P number (refuse other place) h = tt
 pub weaken : {A : Type 0} (P Q : A → List ℕ → Type 0) (m : Out A) → ((a : A) (left : List ℕ) → P a left → Q a left) → Holds P m → Holds Q m
 weaken P Q (ok a left) k h = k a left h
 weaken P Q (refuse number place) k h = tt
+
+-- a test has one outcome
+pub never-both {ℓ} : {X : Type ℓ} {t : Bool} → t ≡ true → t ≡ false → X
+never-both p q = let z : _≡_ {A = ℕ} 0 1 = cc in absurd (omega arith)
 
 -- one order or the other
 pub split {ℓ} : {X : Type ℓ} (a b : ℕ) → (a ≤ b → X) → (b < a → X) → X

@@ -1,10 +1,10 @@
 -- Where the record of a variant starts, and its bytes: what code computes from the header's bytes is the layout's.
 -- Assumes nothing.
 use mathlib.Core.Path.{_≡_, refl, sym, ap, _∙_}
-use Prim.Native.Nat.{ℕ, zero, suc, _+_, _-_, _*_, _/_, _%_, _^_, _≤_, _<_, min}
+use Prim.Native.Nat.{ℕ, zero, suc, _+_, _-_, _*_, _/_, _%_, _≤_, _<_, min}
 use native.Mathlib.Nat.{add-zero, zero-mul, suc-mul, min-eq-left, min-le-right}
 use mathlib.Core.Bool.{true, false}
-use mathlib.Core.List.{List, [], _∷_, _++_, append-assoc, map}
+use mathlib.Core.List.{List, [], _∷_, _++_, map}
 use lib.ListN.{length, take, drop, getD, replicate, getD-replicate, length-append, length-drop, length-map, List·getD-map}
 use lib.Seq.{drop-append-add, take-take, take-add, take-at, take-suc, take-length}
 use native.Mathlib.Omega.{arith}
@@ -101,6 +101,7 @@ module _ (K : ℕ) (l : Layout) (p : zero < K) (h : LayoutObeys K l) (blocked : 
 
 -- ---- the bytes of a record, in both modes
 
+-- past the bodies before it stands a body
 body-found : (v : ℕ) (bodies : List (List ℕ)) → v < length bodies → (after : List ℕ) × (drop (sum (take v (map length bodies))) (joined bodies) ≡ getD bodies v [] ++ after)
 unfolding sum joined
 body-found v [] l = absurd (omega arith)
@@ -128,6 +129,7 @@ body-at-is K v l p h lt =
 
 -- ---- mode 0x02: records of one length
 
+-- the sum of equal numbers
 sum-same : (v m w : ℕ) → v ≤ m → sum (take v (replicate m w)) ≡ v * w
 unfolding sum
 sum-same zero m w h = sym (zero-mul w)
@@ -150,6 +152,7 @@ plain-type K v l h e lt =
     let g : ColumnsPlain (fixed-of l) (columns-of l) = simp e at (h .columns) in
     ap (λ (z : List ℕ). getD z (v .0) 0) (g .types-zero) ∙ getD-replicate (length (l .bodies)) (v .0) 0 0 lt
 
+-- and the one length
 pub plain-length : (K : ℕ) (v : FileVariant) (l : Layout) → LayoutObeys K l → plain-mode (fixed-of l) ≡ true → v .0 < length (l .bodies)
     → getD (body-lengths l) (v .0) 0 ≡ plain-size (l .samples)
 plain-length K v l h e lt =
@@ -171,6 +174,7 @@ record-end K v l lt =
       body-length-at v l,
     )
 
+-- joined bodies are as long as the sum of their lengths
 joined-length : (bodies : List (List ℕ)) → length (joined bodies) ≡ sum (map length bodies)
 unfolding joined sum
 joined-length [] = refl

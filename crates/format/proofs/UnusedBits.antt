@@ -2,10 +2,10 @@
 -- Assumes nothing.
 use mathlib.Core.Path.{_≡_, refl, sym, ap, _∙_}
 use Prim.Native.Nat.{ℕ, zero, suc, _+_, _-_, _*_, _/_, _%_, _^_, _≤_, _<_, zero-le}
-use native.Mathlib.Nat.{pow-zero, pow-succ', div-one, div-div-eq-div-mul, mul-suc, mul-zero, div-eq-of-lt, mod-eq-of-lt, add-div-left, add-div-right, add-mod-left, zero-lt-suc, zero-div, le-refl}
+use native.Mathlib.Nat.{pow-zero, pow-succ', div-one, div-div-eq-div-mul, mul-suc, mul-zero, div-eq-of-lt, mod-eq-of-lt, add-div-left, add-div-right, add-mod-left, zero-lt-suc, le-refl}
 use native.Mathlib.Numerals.{add-one}
 use mathlib.Core.Bool.{Bool, true, false}
-use mathlib.Core.List.{List, [], _∷_, _++_}
+use mathlib.Core.List.{List, [], _∷_}
 use lib.ListN.{length, drop, getD, take, length-drop}
 use lib.Seq.{drop-at, getD-drop, take-length}
 use lib.Dec.{eqb}
@@ -15,7 +15,8 @@ use Rattle.format.specs.Packed.{Bits, limit, more, packed, packed-size, 
 use Rattle.format.proofs.Rules.{Holds, by-test, split}
 use Rattle.format.proofs.PackedLaws.{ArePacked, packed-as-written, packed-length}
 use Rattle.format.proofs.ByIndex.{digits-at, digits-at-are}
-use Rattle.format.proofs.SevenLaws.{Only, only-packed, has-room}
+use Rattle.format.proofs.Refuses.{Refuses, Exactly}
+use Rattle.format.proofs.SevenLaws.{only-packed, has-room}
 
 -- ---- what is left of the last byte
 
@@ -26,6 +27,7 @@ unused-after b m zero rest (suc n) [] = 0
 unused-after b m zero rest (suc n) (x ∷ bs) = unused-after b m m (x / b) n bs
 unused-after b m (suc room) rest (suc n) bs = unused-after b m room (rest / b) n bs
 
+-- what is left of the last byte of an array of n numbers
 abbrev pub unused-bits : Bits → ℕ → List ℕ → ℕ
 unused-bits bits n bs = unused-after (limit bits) (more bits) 0 0 n bs
 
@@ -35,10 +37,12 @@ abbrev refused : {A : Type 0} → Out A → Bool
 refused (ok a left) = false
 refused (refuse number place) = true
 
+-- a use of the result refuses nothing
 refused-map : {A B : Type 0} (f : A → B) (m : Out A) → refused (map-out f m) ≡ refused m
 refused-map f (ok a left) = refl
 refused-map f (refuse number place) = refl
 
+-- with the bytes there, refused exactly where unused bits are set
 after-refused : (end b m room rest n : ℕ) (bs : List ℕ) → n ≤ room + suc m * length bs
     → refused (read-packed-after end b m room rest n bs) ≡ pick (eqb (unused-after b m room rest n bs) 0) false true
 unfolding read-packed-after unused-after
@@ -56,10 +60,12 @@ abbrev RefusedAt : {A : Type 0} → ℕ → Out A → Type 0
 RefusedAt here (ok a left) = Unit {0}
 RefusedAt here (refuse number place) = place ≡ here
 
+-- a use of the result moves no place
 at-map : {A B : Type 0} (here there : ℕ) (f : A → B) (m : Out A) → here ≡ there → RefusedAt here m → RefusedAt there (map-out f m)
 at-map here there f (ok a left) e h = tt
 at-map here there f (refuse number place) e h = h ∙ e
 
+-- at the last byte of the array
 after-place : (end b m room rest n : ℕ) (bs : List ℕ) → room ≤ m → n ≤ room + suc m * length bs
     → RefusedAt (end - suc (length bs - (n + (m - room)) / suc m)) (read-packed-after end b m room rest n bs)
 unfolding read-packed-after
@@ -80,10 +86,12 @@ after-place end b m (suc room) rest (suc n) bs l h =
 
 -- ---- an array whose bytes are there
 
-fails : {A : Type 0} (number place : ℕ) (m : Out A) → refused m ≡ true → Only number m → RefusedAt place m → m ≡ refuse number place
+-- a refusal by its number and place
+fails : {A : Type 0} (number place : ℕ) (m : Out A) → refused m ≡ true → Refuses (Exactly number) m → RefusedAt place m → m ≡ refuse number place
 fails number place (ok a left) e o p = absurd (let z : _≡_ {A = ℕ} 0 1 = cc in omega arith)
 fails number place (refuse other there) e o p = cc (o, p)
 
+-- what is not refused is read
 works : {A : Type 0} (P : A → List ℕ → Type 0) (m : Out A) → refused m ≡ false → Holds P m → (a : A) × (left : List ℕ) × (m ≡ ok a left) × P a left
 works P (ok a left) e h = (a, left, refl, h)
 works P (refuse number place) e h = absurd (let z : _≡_ {A = ℕ} 0 1 = cc in omega arith)
@@ -115,6 +123,7 @@ packed-there end bits n bs y h t =
 
 -- ---- the unused bits by index
 
+-- within one byte
 unused-low : (b m room rest n : ℕ) (bs : List ℕ) → n ≤ room → unused-after b m room rest n bs ≡ rest / b ^ n
 unfolding unused-after
 unused-low b m room rest zero bs h = sym (ap (λ (z : ℕ). rest / z) (pow-zero b) ∙ div-one rest)
@@ -130,6 +139,7 @@ unused-past b m zero rest (suc n) [] h = let e : 0 + suc n ≡ suc n = omega ari
 unused-past b m zero rest (suc n) (x ∷ bs) h = let e : 0 + suc n ≡ suc n = omega arith in rw e refl
 unused-past b m (suc room) rest n bs h = let e : suc room + n ≡ suc (room + n) = omega arith in rw e (unused-past b m room (rest / b) n bs h)
 
+-- in the byte of the last number
 unused-at : (b m i : ℕ) (bs : List ℕ) → i < suc m * length bs → unused-after b m 0 0 (suc i) bs ≡ getD bs (i / suc m) 0 / b ^ suc (i % suc m)
 unfolding unused-after
 unused-at b m i [] h = absurd (omega (arith, mul-zero (suc m)))

@@ -15,17 +15,14 @@ use Rattle.format.specs.Difflist.{Entry, Rule, Rising}
 use Rattle.format.specs.PairCode.{PairCode, code-1, code-2, code-3, code-5, code-6, code-9, pair, category-of, in-pair, coded}
 use Rattle.format.specs.Track.{Kind, against-category, kind, leans, Track, plain, one-bit, leaning, sparse, track-kind, Fits, rule, off-pair, off-category, off-anchor, put, apply, track-categories}
 use Rattle.format.specs.Writer.{differences, bits-for, pair-track, kind-track, track-for, track-code, cleared}
-use Rattle.format.proofs.Rules.{by-test}
+use Rattle.format.proofs.Rules.{never-both, by-test}
 use Rattle.format.proofs.CategoryLaws.{exchange-all-back}
 use Rattle.format.proofs.PairLaws.{code-read-back}
 use Rattle.format.proofs.DifferencesLaws.{getD-replicate, patch, patch-values, put-patch, rises-past, NeedNot, differences-patch}
 
-clash : {X : Type 0} → _≡_ {A = Bool} false true → X
-clash e = absurd (let n : _≡_ {A = ℕ} 0 1 = cc in omega arith)
-
 -- no list holds its base's value
 off-is : (x y : ℕ) → not (eqb x y) ≡ true → x ≡ y → ⊥
-off-is x y h e = clash (sym (ap not (eq-eqb x y e)) ∙ h)
+off-is x y h e = never-both h (ap not (eq-eqb x y e))
 
 -- ---- lists against an anchor or a category
 
@@ -59,7 +56,7 @@ higher-in-pair : (c : PairCode) → in-pair c (pair c .higher) ≡ true
 higher-in-pair c = bit-in-pair c true
 
 off-higher : (c : PairCode) (v : ℕ) → not (in-pair c v) ≡ true → eqb v (pair c .higher) ≡ false
-off-higher c v h = ne-eqb v (pair c .higher) (λ e. clash (sym (ap not (ap (in-pair c) e ∙ higher-in-pair c)) ∙ h))
+off-higher c v h = ne-eqb v (pair c .higher) (λ e. never-both h (ap not (ap (in-pair c) e ∙ higher-in-pair c)))
 
 abbrev clear : ℕ → List Bool → List Entry → List Bool
 clear i bits es = patch (λ (e : Entry). false) i bits es
@@ -110,7 +107,7 @@ module _ (N : ℕ) (c : PairCode) where
   base-at (b ∷ bits) (suc j) l = base-at bits j (omega arith)
 
   need-not-pair : (bits : List Bool) → NeedNot (rule N (off-pair c)) 0 (base-of c bits)
-  need-not-pair bits j v l h e = clash (sym (ap not (ap (in-pair c) e ∙ base-at bits j l)) ∙ h)
+  need-not-pair bits j v l h e = never-both h (ap not (ap (in-pair c) e ∙ base-at bits j l))
 
 clear-length : (i : ℕ) (bits : List Bool) (es : List Entry) → length (clear i bits es) ≡ length bits
 unfolding patch
