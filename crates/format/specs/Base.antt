@@ -10,7 +10,7 @@ abbrev pub pick {ℓ} : {X : Type ℓ} → Bool → X → X → X
 pick true x y = x
 pick false x y = y
 
--- 01, Replies: "A refusal has a number and a place". A reading step gives what it read and the bytes left, or a refusal.
+-- Demand 1: a refusal has a number and a place. A reading step gives what it read and the bytes left, or a refusal.
 pub data Out (A : Type 0) : Type 0 where
   ok : A → List ℕ → Out A
   refuse : ℕ → ℕ → Out A

@@ -218,7 +218,7 @@ abbrev pub flip-left : Reply → List ℕ → List ℕ → Flipped
 flip-left done.Accepted file work = record { refusal = 0; place = 0; file = file; work = work }
 flip-left (done.Refused number place) file work = record { refusal = number; place = place; file = file; work = work }
 
--- 01: "For flips 21 comes next. Then records ... a flip ... make[s] the whole-file check"
+-- 01: "For flips 21 comes next." Then the records, all of them
 abbrev pub flip-out : ℕ → List ℕ → List ℕ → List ℕ → Out Layout
 flip-out K file set work =
     with-layout K file (λ (l : Layout). holds-set set l && holds-row work l) (λ (l : Layout).

@@ -29,7 +29,7 @@ kinds =
 abbrev pub kind : ℕ → Kind
 kind number = getD kinds number no-kind
 
--- 01: "a leaning record": "whose kind is" 2 or 3
+-- whether a record of the kind leans on an anchor: 2 and 3
 abbrev pub leans-kind : Kind → Bool
 leans-kind array = false
 leans-kind paired = false
@@ -105,7 +105,7 @@ bit-set b = not (eqb b 0)
 unfoldable pub read-listed : (List Entry → Track) → ℕ → ℕ → (ℕ → ℕ → Bool) → List ℕ → Out Track
 read-listed track end N may bs = map-out track (read-list (rule N may) (number-width N) end bs)
 
--- the header lets no other kind through (8): law `record-refusals`
+-- the header lets no other kind through (8): laws `body-refusals` and `allowed-kind`
 unfoldable pub read-kind : ℕ → ℕ → List ℕ → Kind → List ℕ → Out Track
 read-kind end N anchor array bs = map-out plain (read-packed end two N bs)
 read-kind end N anchor paired bs =

@@ -63,7 +63,8 @@ write-record categories number code lent room =
 
 -- ---- a record read and written again
 
--- demand 2: "in its own kind and pair code", "the same bytes, except the bits that kind 1 holds for samples it also lists"
+-- Demand 2: an accepted record, read and written again in its own kind and pair code, gives the same bytes, except the bits that kind 1 holds for
+-- samples it also lists.
 abbrev pub track-code : Track → ℕ
 track-code (plain categories) = 0
 track-code (one-bit c bits es) = pair c .code
