@@ -39,3 +39,4 @@ pub mod RefusalsByIndexRecords
 pub mod RefusalsByIndexTurns
 pub mod AnchorByIndex
 pub mod BytesLaws
+pub mod CallLaws
