@@ -65,10 +65,12 @@ checked-file K file work l left e = header (read-layout K file) e
         → (f : File) × (rest : List ℕ) × (map-out (file-of m) bodies ≡ ok f rest) × (f .samples ≤ length work)
     records m (ok b r) t q = (file-of m b, r, refl, leb-true (m .samples) (length work) t)
     records m (refuse number place) t q = let z : _≡_ {A = ℕ} 0 1 = cc in absurd (omega arith)
+
     sized : (m : Layout) (t : Bool) → leb (m .samples) (length work) ≡ t → need t 10 0 (map-out (λ (b : List Body). m) (read-all K m)) ≡ ok l left
         → (f : File) × (rest : List ℕ) × (map-out (file-of m) (read-all K m) ≡ ok f rest) × (f .samples ≤ length work)
     sized m true t q = records m (read-all K m) t q
     sized m false t q = let z : _≡_ {A = ℕ} 0 1 = cc in absurd (omega arith)
+
     header : (out : Out Layout) → bind out (λ m r. need (leb (m .samples) (length work)) 10 0 (map-out (λ (b : List Body). m) (read-all K m))) ≡ ok l left
         → (f : File) × (rest : List ℕ) × (bind out (λ m r. map-out (file-of m) (read-all K m)) ≡ ok f rest) × (f .samples ≤ length work)
     header (ok m r) q = sized m (leb (m .samples) (length work)) refl q
@@ -92,9 +94,9 @@ pub check-exactly : (K : ℕ) (file work : List ℕ) → zero < K → Bytes file
 unfolding check-call
 check-exactly K file work p y = (
   λ e.
-  let a = accepted (check-out K file work) (check-refusals K file work p y) (sym (summary-refusal (check-out K file work)) ∙ e) in
-  let c = checked-file K file work (a .0) (a .1) (a .2) in
-  let w : IsFile K file (c .0) (c .1) = subst (Holds (IsFile K file)) (c .2) (file-as-written K file p y) in
-  (c .0, w .obeys, w .written, c .3),
+      let a = accepted (check-out K file work) (check-refusals K file work p y) (sym (summary-refusal (check-out K file work)) ∙ e) in
+      let c = checked-file K file work (a .0) (a .1) (a .2) in
+      let w : IsFile K file (c .0) (c .1) = subst (Holds (IsFile K file)) (c .2) (file-as-written K file p y) in
+      (c .0, w .obeys, w .written, c .3),
   λ h. ap (λ (out : Out Layout). summary out .refusal) (ap (λ (bs : List ℕ). check-out K bs work) (h .2) ∙ passes K (h .0) work p (h .1) (h .3)),
 )

@@ -7,65 +7,49 @@ use Rattle.format.specs.PairCode.{code-numbered, found}
 use borrow.Author.Needs.{needs}
 use Rattle.format.proofs.pair_of.Statement.{statement}
 use Rattle.format.proofs.pair_of.Tie as tie
-use Rattle.format.proofs.pair_of.Reads as reads
-use Rattle.format.proofs.pair_of.Lts as lts
-use Rattle.format.proofs.pair_row.Reads as pair-row-reads
 
--- src/lib.rt:82:31
 pair-row-requires : tie.Need-pair-row-requires
 pair-row-requires c κs = search needs
 
--- src/lib.rt:83:31
 pair-row-requires-2 : tie.Need-pair-row-requires-2
 pair-row-requires-2 c κs = search needs
 
--- src/lib.rt:84:31
 pair-row-requires-3 : tie.Need-pair-row-requires-3
 pair-row-requires-3 c κs = search needs
 
--- src/lib.rt:85:31
 pair-row-requires-4 : tie.Need-pair-row-requires-4
 pair-row-requires-4 c κs = search needs
 
--- src/lib.rt:86:31
 pair-row-requires-5 : tie.Need-pair-row-requires-5
 pair-row-requires-5 c κs = search needs
 
--- src/lib.rt:87:31
 pair-row-requires-6 : tie.Need-pair-row-requires-6
 pair-row-requires-6 c κs = search needs
 
--- src/lib.rt:78:1
 returns : tie.Need-returns
 unfolding code-numbered
 returns c = ap known.Known (c .pair-row .ensures) ∙ sym (ap found (c .before .match .keys1))
 
--- src/lib.rt:78:1
 returns-2 : tie.Need-returns-2
 unfolding code-numbered
 returns-2 c = ap known.Known (c .pair-row2 .ensures) ∙ sym (ap found (c .before .match .keys2))
 
--- src/lib.rt:78:1
 returns-3 : tie.Need-returns-3
 unfolding code-numbered
 returns-3 c = ap known.Known (c .pair-row3 .ensures) ∙ sym (ap found (c .before .match .keys3))
 
--- src/lib.rt:78:1
 returns-4 : tie.Need-returns-4
 unfolding code-numbered
 returns-4 c = ap known.Known (c .pair-row4 .ensures) ∙ sym (ap found (c .before .match .keys4))
 
--- src/lib.rt:78:1
 returns-5 : tie.Need-returns-5
 unfolding code-numbered
 returns-5 c = ap known.Known (c .pair-row5 .ensures) ∙ sym (ap found (c .before .match .keys5))
 
--- src/lib.rt:78:1
 returns-6 : tie.Need-returns-6
 unfolding code-numbered
 returns-6 c = ap known.Known (c .pair-row6 .ensures) ∙ sym (ap found (c .before .match .keys6))
 
--- src/lib.rt:78:1
 returns-7 : tie.Need-returns-7
 unfolding code-numbered
 returns-7 c =

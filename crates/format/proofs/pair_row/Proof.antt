@@ -5,18 +5,13 @@ use Rattle.format.proofs.PairLaws.{table-rule}
 use borrow.Author.Needs.{needs}
 use Rattle.format.proofs.pair_row.Statement.{statement}
 use Rattle.format.proofs.pair_row.Tie as tie
-use Rattle.format.proofs.pair_row.Reads as reads
-use Rattle.format.proofs.pair_row.Lts as lts
 
--- src/lib.rt:74:5
 mul-result : tie.Need-mul-result
 mul-result c = search needs
 
--- src/lib.rt:74:5
 array-copy-out-result : tie.Need-array-copy-out-result
 array-copy-out-result c = search needs
 
--- src/lib.rt:70:1
 returns : tie.Need-returns
 returns c = table-rule pair pair-codes _ code-9 (c .before .args .i) (search needs)
 
