@@ -1,0 +1,181 @@
+"""Turns cases into the probe's input bytes and the lines it must print.
+
+    python3 probe_cases.py --seed S --cases N --stdin FILE --stdout FILE [--end WAY]
+
+The cases named "Tested only" always come first, then every fault with every call, then
+random cases up to N. A summary goes to standard error. With N of at least 2,000 the
+exit status is 1 if some call did not reach some refusal number that it can give.
+"""
+
+import argparse
+import random
+import sys
+from collections import Counter
+from itertools import chain, islice
+
+import pgen_reference as reference
+from pgen_cases import (FLIP, HEADER, LOOKUP, READ, VIEW, WHOLE_FILE, WRITE, random_case, sweep)
+from pgen_header import Refused, read_header
+from pgen_limit_cases import limit_cases
+
+OUTPUT_FILL = b"\xa5"
+WORK_FILL = b"\x5a"
+CALLS = {
+    HEADER: "header check", WHOLE_FILE: "whole-file check", READ: "read", LOOKUP: "lookup",
+    VIEW: "view", WRITE: "write a record", FLIP: "flip",
+}
+HEADER_REFUSALS = list(range(1, 10))
+RECORD_REFUSALS = list(range(12, 19))
+POSSIBLE = {
+    HEADER: HEADER_REFUSALS,
+    WHOLE_FILE: HEADER_REFUSALS + [10] + RECORD_REFUSALS,
+    READ: HEADER_REFUSALS + [10, 11] + RECORD_REFUSALS,
+    LOOKUP: HEADER_REFUSALS + [10, 11] + RECORD_REFUSALS,
+    VIEW: HEADER_REFUSALS + [11],
+    WRITE: [4, 10, 19, 20],
+    FLIP: HEADER_REFUSALS + [10, 21] + RECORD_REFUSALS,
+}
+LIMITS = (524288, 131072, 131072, 131072)
+BAD_ENDS = {
+    "none": b"",
+    "other-call": bytes([8]) + bytes(32),
+    "call-0": bytes(33),
+    "over-A": bytes([1]) + bytes(16) + (524289).to_bytes(4, "little") + bytes(12),
+    "over-W": bytes([2]) + bytes(28) + (131073).to_bytes(4, "little"),
+    "cut-head": bytes([1]) + bytes(31),
+}
+
+
+def input_bytes(case):
+    """A case in the probe's input form."""
+    sizes = (len(case.first), len(case.second), case.output, case.work)
+    assert all(size <= limit for size, limit in zip(sizes, LIMITS)), sizes
+    head = bytes([case.call]) + case.x.to_bytes(8, "little") + case.y.to_bytes(8, "little")
+    head += b"".join(size.to_bytes(4, "little") for size in sizes)
+    return head + case.first + case.second
+
+
+def reply_to(case):
+    """The reply's numbers, and the buffers that are printed, each with its letter."""
+    output = OUTPUT_FILL * case.output
+    work = WORK_FILL * case.work
+    if case.call == HEADER:
+        return reference.header_check(case.first), []
+    if case.call == WHOLE_FILE:
+        *numbers, later = reference.whole_file_check(case.first, work)
+        return numbers, [("w", later)]
+    if case.call == READ:
+        *numbers, later_output, later = reference.read(case.first, case.x, output, work)
+        return numbers, [("o", later_output), ("w", later)]
+    if case.call == LOOKUP:
+        *numbers, later = reference.lookup(case.first, case.x, case.y, work)
+        return numbers, [("w", later)]
+    if case.call == VIEW:
+        *numbers, part = reference.view(case.first, case.x)
+        return numbers + [len(part)], [("p", part)]
+    if case.call == WRITE:
+        *numbers, later_output = reference.write_record(
+            case.first, case.x, case.y, case.second, output)
+        return numbers, [("o", later_output)]
+    *numbers, file, later = reference.flip(case.first, case.second, work)
+    return numbers, [("f", file), ("w", later)]
+
+
+def line_of(numbers, buffers):
+    """The line for a reply."""
+    parts = [str(number) for number in numbers]
+    for letter, data in buffers:
+        parts += [letter, data.hex() or "-"]
+    return " ".join(parts)
+
+
+def kinds_of(case):
+    """The kinds that an accepted call concerned."""
+    if case.call == WRITE:
+        return {case.x}
+    try:
+        header = read_header(case.first)
+    except Refused:
+        return set()
+    if case.call in (READ, LOOKUP, VIEW):
+        return {header.types[case.x]}
+    return set(header.types)
+
+
+def all_cases(seed, count):
+    """The cases, from a seed."""
+    rng = random.Random(seed)
+    first = list(limit_cases(rng))
+    swept = sweep(rng)
+    endless = (random_case(rng) for _ in iter(int, 1))
+    return islice(chain(first, swept, endless), max(count, len(first)))
+
+
+class Summary:
+    """How often each call, kind and refusal number occurred."""
+
+    def __init__(self):
+        self.calls = Counter()
+        self.kinds = Counter()
+        self.refusals = Counter()
+        self.pairs = Counter()
+
+    def add(self, case, number):
+        """Count one case."""
+        self.calls[case.call] += 1
+        self.refusals[number] += 1
+        self.pairs[case.call, number] += 1
+        if number == 0 and case.call != HEADER:
+            self.kinds.update(kinds_of(case))
+
+    def missing(self):
+        """The refusals that a call can give and did not."""
+        return [(call, number) for call, numbers in POSSIBLE.items()
+                for number in [0] + numbers if not self.pairs[call, number]]
+
+    def show(self, out):
+        """Print the summary."""
+        for call, name in CALLS.items():
+            numbers = [0] + POSSIBLE[call]
+            reached = " ".join(f"{number}:{self.pairs[call, number]}" for number in numbers)
+            print(f"{name}: {self.calls[call]} cases; refusals {reached}", file=out)
+        kinds = " ".join(f"{kind}:{self.kinds[kind]}" for kind in sorted(self.kinds))
+        print(f"kinds in accepted calls: {kinds}", file=out)
+        refusals = " ".join(f"{number}:{self.refusals[number]}" for number in range(22))
+        print(f"all refusals: {refusals}", file=out)
+
+
+def parse_arguments():
+    """The command line."""
+    parser = argparse.ArgumentParser(description=__doc__.splitlines()[0])
+    parser.add_argument("--seed", type=int, default=1)
+    parser.add_argument("--cases", type=int, default=2000)
+    parser.add_argument("--stdin", required=True, help="where the probe's input goes")
+    parser.add_argument("--stdout", required=True, help="where the lines go")
+    parser.add_argument("--end", choices=sorted(BAD_ENDS), default="none",
+                        help="a bad head after the cases")
+    return parser.parse_args()
+
+
+def main():
+    """Write both files and the summary."""
+    arguments = parse_arguments()
+    summary = Summary()
+    with open(arguments.stdin, "wb") as to_probe, open(arguments.stdout, "w") as lines:
+        for case in all_cases(arguments.seed, arguments.cases):
+            numbers, buffers = reply_to(case)
+            to_probe.write(input_bytes(case))
+            lines.write(line_of(numbers, buffers) + "\n")
+            summary.add(case, numbers[0])
+        if arguments.end != "none":
+            to_probe.write(BAD_ENDS[arguments.end])
+            lines.write("bad case\n")
+    summary.show(sys.stderr)
+    missing = summary.missing()
+    for call, number in missing:
+        print(f"not reached: {CALLS[call]}, refusal {number}", file=sys.stderr)
+    return 1 if missing and arguments.cases >= 2000 else 0
+
+
+if __name__ == "__main__":
+    sys.exit(main())

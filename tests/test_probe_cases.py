@@ -1,0 +1,64 @@
+"""Tests of the probe's input and output form."""
+
+import random
+import unittest
+
+import probe_cases
+from pgen_cases import READ, Case, random_case
+from test_reference import A
+
+
+def taken_apart(data):
+    """A case from its input bytes."""
+    numbers = [int.from_bytes(data[a:b], "little")
+               for a, b in ((1, 9), (9, 17), (17, 21), (21, 25), (25, 29), (29, 33))]
+    x, y, first, second, output, work = numbers
+    middle = 33 + first
+    assert len(data) == middle + second
+    return Case(data[0], x, y, data[33:middle], data[middle:], output, work)
+
+
+class Form(unittest.TestCase):
+    """The form of cases and lines."""
+
+    def test_line(self):
+        case = Case(READ, x=1, first=A, output=6, work=7)
+        line = probe_cases.line_of(*probe_cases.reply_to(case))
+        self.assertEqual(line, "0 0 o 0002020301a5 w 00000000005a5a")
+
+    def test_lines_of_every_call(self):
+        expected = {
+            Case(1, first=A): "0 0 16 3 5 64",
+            Case(2, first=A, work=6): "0 0 16 3 5 64 w 00000000005a",
+            Case(2, first=b"", work=1): "1 0 0 0 0 0 w 5a",
+            Case(3, first=A, work=5): "10 0 o - w 5a5a5a5a5a",
+            Case(4, x=1, y=3, first=A, work=5): "0 0 3 w 0000000000",
+            Case(5, x=2, first=A): "0 0 3 p 010203",
+            Case(5, x=3, first=A): "11 0 0 p -",
+            Case(6, first=bytes([0, 1, 2, 3, 0]), output=3): "0 0 2 o e400a5",
+            Case(6, x=5, first=b"\0", output=1): "19 0 0 o a5",
+            Case(7, first=A, second=b"\2", work=5):
+                "0 0 f " + A[:20].hex() + "30" + A[21:].hex() + " w 0000000000",
+            Case(7, first=A, second=b"\x08", work=5): "21 0 f " + A.hex() + " w 5a5a5a5a5a",
+        }
+        for case, line in expected.items():
+            self.assertEqual(probe_cases.line_of(*probe_cases.reply_to(case)), line)
+
+    def test_input(self):
+        rng = random.Random(9)
+        for _ in range(200):
+            case = random_case(rng)
+            self.assertEqual(taken_apart(probe_cases.input_bytes(case)), case)
+            used = {1: "", 2: "work", 3: "x output work", 4: "x y work", 5: "x",
+                    6: "x y second output", 7: "second work"}[case.call].split()
+            for name in ("x", "y", "second", "output", "work"):
+                if name not in used:
+                    self.assertFalse(getattr(case, name), case)
+
+    def test_same_seed_same_cases(self):
+        one, other = ([random_case(rng) for _ in range(30)] for rng in map(random.Random, (4, 4)))
+        self.assertEqual(one, other)
+
+
+if __name__ == "__main__":
+    unittest.main()
