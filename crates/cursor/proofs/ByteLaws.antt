@@ -1,18 +1,16 @@
 -- A byte at a place of a list.
 -- Assumes nothing.
-use mathlib.Core.Path.{_≡_, refl, sym, ap, _∙_, subst}
-use Prim.Native.Nat.{ℕ, zero, suc, _+_, _-_, _*_, _≤_, _<_}
+use mathlib.Core.Path.{_≡_, _∙_}
+use Prim.Native.Nat.{ℕ, suc, _+_, _-_, _*_, _≤_, _<_}
 use mathlib.Core.List.{List, [], _∷_}
 use lib.ListN.{length, drop, getD, length-drop, drop-of-length-le}
 use lib.Seq.{drop-cons}
 use native.Mathlib.Omega.{arith}
-use native.Mathlib.Numerals.{add-one}
 use Rattle.format.specs.Base.{Bytes, place-of}
 use Rattle.format.specs.Numbers.{read-number}
 use Rattle.format.proofs.Rules.{split}
 use Rattle.cursor.specs.Steps.{byte-at}
 use Rattle.cursor.specs.declared.Cursor.{Cursor}
-use Rattle.cursor.specs.declared.ByteStep.{ByteStep}
 use Rattle.cursor.specs.declared.ByteStep.the-variants.{Byte, Refused}
 
 -- a slice's elements are bytes

@@ -4,7 +4,7 @@ use mathlib.Core.Path.{_≡_, refl, ap, _∙_}
 use Prim.Native.Nat.{ℕ, zero, suc, _-_, _*_, _/_, _%_, _≤_, _<_, min}
 use native.Mathlib.Nat.{min-le-right}
 use mathlib.Core.Bool.{false}
-use mathlib.Core.List.{List, [], append-assoc}
+use mathlib.Core.List.{List, append-assoc}
 use lib.ListN.{length, take, drop, getD}
 use lib.Seq.{getD-take, take-take}
 use native.Mathlib.Omega.{arith}

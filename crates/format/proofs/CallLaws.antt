@@ -1,16 +1,16 @@
 -- The calls: a refused one leaves each output and the file as they were; the whole-file check accepts exactly the files that obey.
 -- Assumes nothing.
 use mathlib.Core.Path.{_≡_, refl, sym, ap, _∙_, subst}
-use Prim.Native.Nat.{ℕ, zero, suc, _≤_, _<_}
+use Prim.Native.Nat.{ℕ, zero, _≤_, _<_}
 use mathlib.Core.Bool.{Bool, true, false}
 use mathlib.Core.Logic.{_↔_}
-use mathlib.Core.List.{List, [], _∷_, _++_}
-use lib.ListN.{length, drop}
+use mathlib.Core.List.{List, []}
+use lib.ListN.{length}
 use lib.Dec.{leb}
 use native.Mathlib.Omega.{arith}
 use borrow.Author.Tests.{leb-true, le-leb}
 use Rattle.format.specs.declared.FileVariant.{FileVariant}
-use Rattle.format.specs.Base.{pick, Bytes, Out, ok, refuse, bind, map-out, need}
+use Rattle.format.specs.Base.{Bytes, Out, ok, refuse, bind, map-out, need}
 use Rattle.format.specs.Body.{Body}
 use Rattle.format.specs.Layout.{most-samples, header-end, Layout, fixed-of}
 use Rattle.format.specs.Header.{read-layout}

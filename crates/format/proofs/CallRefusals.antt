@@ -1,18 +1,18 @@
 -- Each refusal of a public call is a number of document 01's table that belongs to that call: no clause that stands for what cannot come is reached.
 -- Assumes nothing.
-use mathlib.Core.Path.{_≡_, refl, sym, ap, _∙_, subst}
-use Prim.Native.Nat.{ℕ, zero, suc, _+_, _*_, _≤_, _<_}
-use mathlib.Core.Bool.{Bool, true, false, _&&_}
+use mathlib.Core.Path.{_≡_, refl}
+use Prim.Native.Nat.{ℕ, zero, suc, _+_, _*_, _<_}
+use mathlib.Core.Bool.{Bool, _&&_}
 use mathlib.Core.Logic.{_⊎_, inl, inr}
-use mathlib.Core.List.{List, [], _∷_, map}
+use mathlib.Core.List.{List, [], _∷_}
 use lib.ListN.{length, getD}
 use lib.Dec.{eqb, ltb, leb, lit≤}
 use native.Mathlib.Omega.{arith}
 use borrow.Author.Tests.{ltb-true}
 use Rattle.format.specs.declared.FileVariant.{FileVariant}
-use Rattle.format.specs.Base.{pick, Bytes, Out, ok, refuse, bind, map-out, need}
+use Rattle.format.specs.Base.{pick, Bytes, Out, need}
 use Rattle.format.specs.PairCode.{Coded, coded, not-coded, code-numbered}
-use Rattle.format.specs.Track.{Kind, array, paired, against-anchor, against-category, no-kind, kind, leans, Track, track-bytes}
+use Rattle.format.specs.Track.{Kind, array, paired, against-anchor, against-category, no-kind, kind, leans, track-bytes}
 use Rattle.format.specs.Body.{Body, body-categories, read-body}
 use Rattle.format.specs.Variant.{file-variant, next-variant, block-of, in-block, anchor}
 use Rattle.format.specs.Layout.{from-1-to, most-samples, header-end, Layout, fixed-of, record-start, TypesAllowed, LayoutObeys}
@@ -20,7 +20,7 @@ use Rattle.format.specs.Header.{read-layout}
 use Rattle.format.specs.File.{next-anchor, read-records, read-all, type-of, read-over, read-variant}
 use Rattle.format.specs.Writer.{pair-track, kind-track, track-for, need-categories, write-record}
 use Rattle.format.specs.Reply.{holds-row, holds-set, with-layout, checked, check-out, need-variant, read-out, lookup-out, view-out, past-last, flip-out}
-use Rattle.format.proofs.Rules.{Holds, by-test, by-bind, by-map}
+use Rattle.format.proofs.Rules.{by-test}
 use Rattle.format.proofs.Refuses.{Refuses, Within, refuses-weaken, refuses-need, refuses-map, refuses-bind, refuses-then}
 use Rattle.format.proofs.Refusals.{body-refusals, allowed-kind}
 use Rattle.format.proofs.AnchorLaws.{IsAnchor, anchor-is, types-allowed-at}

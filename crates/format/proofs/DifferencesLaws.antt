@@ -1,17 +1,17 @@
 -- A row of categories and the list of where it differs from another: each gives the other back.
 -- Assumes nothing.
-use mathlib.Core.Path.{_≡_, refl, sym, ap, ap₂, _∙_, subst}
-use Prim.Native.Nat.{ℕ, zero, suc, _+_, _≤_, _<_, zero-le}
-use native.Mathlib.Nat.{le-refl, add-zero, zero-add}
-use mathlib.Core.Bool.{Bool, true, false, not}
+use mathlib.Core.Path.{_≡_, refl, sym, ap, _∙_, subst}
+use Prim.Native.Nat.{ℕ, zero, suc, _+_, _≤_, _<_}
+use native.Mathlib.Nat.{le-refl, add-zero}
+use mathlib.Core.Bool.{Bool, true, false}
 use mathlib.Core.List.{List, [], _∷_, _++_, append-assoc}
-use lib.ListN.{length, getD, set, replicate, length-append}
+use lib.ListN.{length, getD, replicate, length-append}
 use lib.Seq.{set-at}
-use lib.Dec.{eqb, ltb}
+use lib.Dec.{eqb}
 use native.Mathlib.Omega.{arith}
 use borrow.Author.Tests.{eq-eqb, ne-eqb, eqb-true, eqb-false}
 use Rattle.format.specs.Base.{pick, Below}
-use Rattle.format.specs.Difflist.{Entry, Rule, Good, Rising}
+use Rattle.format.specs.Difflist.{Entry, Rule, Rising}
 use Rattle.format.specs.Track.{put, apply, rule}
 use Rattle.format.specs.Writer.{unless, differences}
 use Rattle.format.proofs.Rules.{by-test}

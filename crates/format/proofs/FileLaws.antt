@@ -1,19 +1,19 @@
 -- The whole-file check accepts exactly the bytes of a file that obeys.
 -- Assumes nothing.
 use mathlib.Core.Path.{_≡_, refl, sym, ap, ap₂, _∙_, subst}
-use Prim.Native.Nat.{ℕ, zero, suc, _+_, _≤_, _<_}
+use Prim.Native.Nat.{ℕ, zero, _+_, _≤_, _<_}
 use mathlib.Core.Logic.{_↔_}
 use mathlib.Core.List.{List, [], _∷_, _++_, map}
-use lib.ListN.{length, length-map}
+use lib.ListN.{length}
 use native.Mathlib.Omega.{arith}
-use Rattle.format.specs.Base.{Below, Bytes, Out, ok, refuse, bind, map-out}
-use Rattle.format.specs.Body.{Body, body-type, body-bytes, BodyFits, read-body, body-categories}
+use Rattle.format.specs.Base.{Bytes, ok}
+use Rattle.format.specs.Body.{Body, body-type, body-bytes, read-body, body-categories}
 use Rattle.format.specs.Layout.{most-samples, fixed-bytes, arrays-bytes, header-end, Layout, fixed-of, columns-of, arrays-of, joined, in-parts, layout-bytes, LayoutObeys}
 use Rattle.format.specs.Header.{read-layout}
 use Rattle.format.specs.File.{File, layout-of-file, file-bytes, next-anchor, BodiesFit, Obeys, read-records, file-of, read-all, read-file}
 use Rattle.format.proofs.Rules.{Holds, by-bind, by-map, below-after}
 use Rattle.format.proofs.BodyLaws.{body-read-back, IsBody, body-as-written}
-use Rattle.format.proofs.HeaderLaws.{layout-read-back, IsLayout, layout-as-written, header-exactly}
+use Rattle.format.proofs.HeaderLaws.{layout-read-back, IsLayout, layout-as-written}
 use Rattle.format.proofs.OffsetsLaws.{from-1-to-most, types-counted}
 
 -- ---- the records of a file, in variant order

@@ -1,7 +1,7 @@
 -- The flip of a set over the bodies of a file, in variant order: what fits still fits, every row is exchanged exactly if its variant is in the set, two flips are one.
 -- Assumes nothing.
 use mathlib.Core.Path.{_≡_, refl, sym, ap, ap₂, _∙_, subst}
-use Prim.Native.Nat.{ℕ, zero, suc, _+_, _≤_, _<_}
+use Prim.Native.Nat.{ℕ, zero, suc, _+_, _≤_}
 use native.Mathlib.Nat.{add-zero, le-trans}
 use mathlib.Core.Bool.{Bool, true, false}
 use mathlib.Core.List.{List, [], _∷_, map}
@@ -10,8 +10,8 @@ use native.Mathlib.Omega.{arith}
 use Rattle.format.specs.declared.FileVariant.{FileVariant}
 use Rattle.format.specs.Base.{pick, Below}
 use Rattle.format.specs.Category.{exchange-all, just-one}
-use Rattle.format.specs.Track.{leans, track-kind}
-use Rattle.format.specs.Body.{Body, body-type, body-bytes, body-categories, flip-body}
+use Rattle.format.specs.Track.{leans}
+use Rattle.format.specs.Body.{Body, body-type, body-bytes, body-categories}
 use Rattle.format.specs.Variant.{file-variant, next-variant, in-block}
 use Rattle.format.specs.Layout.{TypesAllowed}
 use Rattle.format.specs.File.{next-anchor, rows, BodiesFit, flip-bodies}

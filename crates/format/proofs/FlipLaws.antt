@@ -1,24 +1,23 @@
 -- DEMAND 3, on bytes: a flipped file is accepted again with the same lengths and offsets, its members read exchanged and all others as before; two flips are one.
 -- Assumes nothing.
 use mathlib.Core.Path.{_≡_, refl, sym, ap, ap₂, _∙_, subst, fun-ext}
-use Prim.Native.Nat.{ℕ, zero, suc, _+_, _%_, _^_, _≤_, _<_}
+use Prim.Native.Nat.{ℕ, zero, _%_, _^_, _≤_, _<_}
 use native.Mathlib.Nat.{zero-add}
 use mathlib.Core.Bool.{Bool, true, false}
-use mathlib.Core.List.{List, [], _∷_, _++_, map}
-use lib.ListN.{length, getD, replicate, length-append, length-map}
+use mathlib.Core.List.{List, []}
+use lib.ListN.{length, getD, length-map}
 use lib.Dec.{ltb, lit≤}
 use native.Mathlib.Omega.{arith}
 use Rattle.format.specs.declared.FileVariant.{FileVariant}
 use Rattle.format.specs.Base.{pick, Below, Bytes, Out, ok, refuse, map-out}
 use Rattle.format.specs.Category.{exchange-all, just-one}
-use Rattle.format.specs.Packed.{Bits, one, two, four, eight, limit}
+use Rattle.format.specs.Packed.{four, eight, limit}
 use Rattle.format.specs.Body.{Body, body-type, body-bytes}
 use Rattle.format.specs.Variant.{file-variant}
-use Rattle.format.specs.Layout.{Fixed, plain-mode, form-of, flag-count, header-end, block-sizes, block-starts, FixedObeys, fixed-bytes, arrays-bytes, Layout, fixed-of, body-lengths, columns-of, arrays-of, joined, in-parts, layout-bytes, ColumnsFit, ColumnsPlain, ColumnsObey, LayoutObeys}
-use Rattle.format.specs.File.{File, layout-of-file, file-bytes, rows, BodiesFit, Obeys, read-file, read-row, flip-bodies, flip-file, flipped, flip-bytes}
-use Rattle.format.proofs.Rules.{Holds, by-test}
+use Rattle.format.specs.Layout.{Fixed, plain-mode, form-of, header-end, block-sizes, block-starts, FixedObeys, Layout, fixed-of, body-lengths, columns-of, arrays-of, ColumnsFit, ColumnsPlain, ColumnsObey}
+use Rattle.format.specs.File.{File, layout-of-file, file-bytes, rows, Obeys, read-file, read-row, flip-bodies, flip-file, flipped, flip-bytes}
+use Rattle.format.proofs.Rules.{Holds}
 use Rattle.format.proofs.CategoryLaws.{just-one-self}
-use Rattle.format.proofs.OffsetsLaws.{types-counted}
 use Rattle.format.proofs.FlipBodiesLaws.{bodies-fit-flip, row-flip, flip-bodies-twice, flip-bodies-none, flip-count, flip-lengths, types-allowed-flip, types-small, types-zero-flip}
 use Rattle.format.proofs.FileLaws.{file-read-back, file-exactly, IsFile, file-as-written}
 use Rattle.format.proofs.ReadsLaws.{row-reads}

@@ -1,11 +1,11 @@
 -- Every refusal of the header check is one of 1 to 9.
 -- Assumes nothing.
-use Prim.Native.Nat.{ℕ, zero, suc, _+_}
+use Prim.Native.Nat.{ℕ, _+_}
 use mathlib.Core.List.{List, [], _∷_}
 use lib.ListN.{length}
 use lib.Dec.{eqb, leb, lit≤}
 use Rattle.format.specs.declared.FileVariant.{FileVariant}
-use Rattle.format.specs.Base.{Out, ok, refuse, map-out, numbered}
+use Rattle.format.specs.Base.{Out, numbered}
 use Rattle.format.specs.Variant.{file-variant, next-variant, in-block}
 use Rattle.format.specs.Layout.{Fixed, most-samples, most-variants, from-1-to, mode-covered, form-allowed, Arrays, block-sizes, arrays-size, header-end, block-starts, type-allowed}
 use Rattle.format.specs.Header.{read-fixed, need-fixed, read-arrays, type-place, need-types, need-offsets, split-bodies, layout-of, read-bodies, read-layout}

@@ -40,3 +40,4 @@ pub mod RefusalsByIndexTurns
 pub mod AnchorByIndex
 pub mod BytesLaws
 pub mod CallLaws
+pub mod Orders

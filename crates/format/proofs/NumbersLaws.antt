@@ -1,14 +1,14 @@
 -- Numbers of w bytes, rows of them, rows of bytes: read back, as written, lengths, bytes.
 -- Assumes nothing.
 use mathlib.Core.Path.{_≡_, refl, sym, ap, _∙_}
-use Prim.Native.Nat.{ℕ, zero, suc, _+_, _*_, _/_, _%_, _^_, _≤_, _<_}
+use Prim.Native.Nat.{ℕ, zero, suc, _+_, _*_, _/_, _%_, _^_, _<_}
 use native.Mathlib.Nat.{div-lt-iff-lt-mul, pow-suc, pow-zero, mul-suc, mul-zero}
 use mathlib.Core.List.{List, [], _∷_, _++_, append-assoc}
 use lib.ListN.{length, length-append}
 use lib.Dec.{lit<}
 use lib.Arith.{lt-one, digits-lt}
 use native.Mathlib.Omega.{arith}
-use Rattle.format.specs.Base.{Below, Bytes, Out, ok, refuse}
+use Rattle.format.specs.Base.{Below, Bytes, ok}
 use Rattle.format.specs.Numbers.{number-bytes, read-number, numbers-bytes, read-numbers, read-bytes}
 use Rattle.format.proofs.Rules.{Holds, by-map, by-bind, below-after, below-append}
 

@@ -1,7 +1,7 @@
 -- Packed arrays, for every number of bits at once: read back, as written, lengths, bytes, one number by its index.
 -- Assumes nothing.
 use mathlib.Core.Path.{_≡_, refl, sym, ap, _∙_}
-use Prim.Native.Nat.{ℕ, zero, suc, _+_, _-_, _*_, _/_, _%_, _^_, _≤_, _<_, zero-le, suc-le-suc}
+use Prim.Native.Nat.{ℕ, zero, suc, _+_, _-_, _/_, _%_, _^_, _≤_, _<_, zero-le, suc-le-suc}
 use native.Mathlib.Nat.{mod-lt, div-add-mod', div-lt-iff-lt-mul, pow-suc, pow-zero, pow-succ', one-le-pow, div-one, div-div-eq-div-mul, mod-eq-of-lt, div-eq-of-lt, add-div-left, add-div-right, add-mod-left, zero-lt-suc, zero-add, suc-add, lt-div-mul-add}
 use native.Mathlib.Numerals.{add-one}
 use mathlib.Core.List.{List, [], _∷_, _++_}
@@ -10,7 +10,7 @@ use lib.Dec.{eqb, lit<}
 use lib.Arith.{digits-div, digits-mod, digits-lt, lt-one}
 use native.Mathlib.Omega.{arith}
 use borrow.Author.Tests.{eqb-true}
-use Rattle.format.specs.Base.{Below, Bytes, Out, ok, refuse}
+use Rattle.format.specs.Base.{Below, Bytes, ok}
 use Rattle.format.specs.Packed.{Bits, one, two, four, eight, limit, more, byte-of, packed-after, packed, packed-size, read-packed-after, read-packed}
 use Rattle.format.proofs.Rules.{Holds, by-need, by-map, split}
 

@@ -1,18 +1,17 @@
 -- What one variant of an accepted file reads as: the row that the format defines, also where it leans on an anchor.
 -- Assumes nothing.
 use mathlib.Core.Path.{_≡_, refl, sym, ap, ap₂, _∙_, subst}
-use Prim.Native.Nat.{ℕ, zero, suc, _+_, _*_, _≤_, _<_}
-use mathlib.Core.Bool.{Bool, true, false}
+use Prim.Native.Nat.{ℕ, zero, suc, _*_, _≤_, _<_}
+use mathlib.Core.Bool.{true, false}
 use mathlib.Core.List.{List, [], _∷_, map}
 use lib.ListN.{length, getD, length-map, List·getD-map}
 use native.Mathlib.Omega.{arith}
 use Rattle.format.specs.declared.FileVariant.{FileVariant}
-use Rattle.format.specs.Base.{pick, Bytes, Out, ok, refuse, bind, map-out}
+use Rattle.format.specs.Base.{Bytes, Out, ok, bind, map-out}
 use Rattle.format.specs.Track.{plain, leans}
 use Rattle.format.specs.Body.{Body, body-type, body-bytes, BodyFits, read-body, body-categories}
 use Rattle.format.specs.Variant.{file-variant, next-variant, block-of, anchor}
 use Rattle.format.specs.Layout.{most-samples, Layout, record-start}
-use Rattle.format.specs.Header.{read-layout}
 use Rattle.format.specs.File.{File, layout-of-file, file-bytes, next-anchor, rows, BodiesFit, Obeys, read-file, type-of, read-over, read-variant, read-row}
 use Rattle.format.proofs.Rules.{by-test, split}
 use Rattle.format.proofs.BodyLaws.{body-read-back}
@@ -20,7 +19,7 @@ use Rattle.format.proofs.RowLaws.{row-anchor-unused, body-fits-anchor-u
 use Rattle.format.proofs.AnchorLaws.{IsAnchor, anchor-is}
 use Rattle.format.proofs.OffsetsLaws.{from-1-to-most}
 use Rattle.format.proofs.HeaderLaws.{layout-read-back}
-use Rattle.format.proofs.FileLaws.{file-exactly, one-type-each}
+use Rattle.format.proofs.FileLaws.{file-exactly}
 
 -- ---- what is carried from record to record is the anchor's row
 

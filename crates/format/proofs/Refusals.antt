@@ -9,7 +9,7 @@ use lib.Dec.{ltb, leb, eqb, lit≤}
 use native.Mathlib.Omega.{arith}
 use borrow.Author.Tests.{le-ltb}
 use Rattle.format.specs.declared.BlockVariant.{BlockVariant}
-use Rattle.format.specs.Base.{Bytes, Out, ok, refuse, bind, map-out, need}
+use Rattle.format.specs.Base.{Bytes, Out}
 use Rattle.format.specs.Varint.{varint-bytes, read-varint-within, read-varint}
 use Rattle.format.specs.Numbers.{numbers-bytes, read-number, read-numbers, read-bytes}
 use Rattle.format.specs.Packed.{Bits, one, two, limit, more, packed, read-packed-after, read-packed}

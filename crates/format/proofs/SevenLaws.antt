@@ -8,7 +8,7 @@ use mathlib.Core.List.{List, [], _∷_, map}
 use lib.ListN.{length, length-append}
 use lib.Dec.{eqb}
 use native.Mathlib.Omega.{arith}
-use Rattle.format.specs.Base.{pick, Bytes, Out, ok, refuse, bind, map-out}
+use Rattle.format.specs.Base.{pick, Bytes, map-out}
 use Rattle.format.specs.Numbers.{number-bytes, read-number, numbers-bytes, read-numbers}
 use Rattle.format.specs.Packed.{Bits, one, limit, more, packed, packed-size, read-packed-after, read-packed}
 use Rattle.format.specs.Layout.{Fixed, plain-mode, Form, form-of, flag-count, sum, block-count, block-sizes, block-size, blocked-size, arrays-size}

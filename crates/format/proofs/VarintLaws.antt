@@ -2,13 +2,12 @@
 -- Assumes nothing.
 use mathlib.Core.Path.{_≡_, refl}
 use Prim.Native.Nat.{ℕ, zero, suc, _+_, _-_, _*_, _/_, _%_, _^_, _≤_, _<_, zero-le}
-use mathlib.Core.Bool.{Bool, true, false}
 use mathlib.Core.List.{List, [], _∷_, _++_}
 use lib.ListN.{length}
 use lib.Dec.{ltb, leb, lit≤}
 use native.Mathlib.Omega.{arith}
 use borrow.Author.Tests.{lt-ltb, le-ltb, le-leb, ltb-true, ltb-false, leb-true}
-use Rattle.format.specs.Base.{Bytes, Out, ok, refuse, place-of}
+use Rattle.format.specs.Base.{Bytes, ok, place-of}
 use Rattle.format.specs.Varint.{varint-limit, varint-within, varint-bytes, read-varint-within, read-varint}
 use Rattle.format.proofs.Rules.{Holds, by-test, by-need, by-map, weaken}
 

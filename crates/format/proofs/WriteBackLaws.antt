@@ -1,15 +1,15 @@
 -- A track read and written again in its own kind and pair code is itself, but for the bits of listed samples in kind 1, which are cleared.
 -- Assumes nothing.
 use mathlib.Core.Path.{_≡_, refl, sym, ap, ap₂, _∙_, subst}
-use Prim.Native.Nat.{ℕ, zero, suc, _+_, _≤_, _<_, zero-le}
+use Prim.Native.Nat.{ℕ, zero, suc, _<_}
 use native.Mathlib.Nat.{zero-add}
 use mathlib.Core.Bool.{Bool, true, false, not}
-use mathlib.Core.List.{List, [], _∷_, _++_, map}
-use lib.ListN.{length, getD, replicate, length-map, length-replicate, length-set}
+use mathlib.Core.List.{List, [], _∷_, map}
+use lib.ListN.{length, getD, replicate, length-map, length-replicate}
 use lib.Dec.{eqb}
 use native.Mathlib.Omega.{arith}
-use borrow.Author.Tests.{ne-eqb, eq-eqb, eqb-true, eqb-false}
-use Rattle.format.specs.Base.{pick, Below, Out, ok, refuse}
+use borrow.Author.Tests.{ne-eqb, eq-eqb, eqb-true}
+use Rattle.format.specs.Base.{pick, ok}
 use Rattle.format.specs.Category.{exchange-all}
 use Rattle.format.specs.Difflist.{Entry, Rule, Rising}
 use Rattle.format.specs.PairCode.{PairCode, code-1, code-2, code-3, code-5, code-6, code-9, pair, category-of, in-pair, coded}

@@ -1,16 +1,15 @@
 -- DEMAND 2: categories written in any kind read back as themselves; an accepted record, read and written again, gives the same bytes but for cleared bits.
 -- Assumes nothing.
-use mathlib.Core.Path.{_≡_, refl, sym, ap, ap₂, _∙_, subst}
-use Prim.Native.Nat.{ℕ, zero, suc, _≤_, _<_}
+use mathlib.Core.Path.{_≡_, refl, sym, ap, _∙_, subst}
+use Prim.Native.Nat.{ℕ, suc, _≤_}
 use mathlib.Core.Bool.{Bool, true, false}
 use mathlib.Core.List.{List, [], _∷_}
 use lib.ListN.{length}
 use lib.Dec.{eqb, ltb, leb}
-use native.Mathlib.Omega.{arith}
 use borrow.Author.Tests.{ltb-true, lt-ltb, le-leb, eq-eqb, eqb-true}
-use Rattle.format.specs.Base.{pick, Below, Bytes, Out, ok, refuse, bind, map-out, need}
+use Rattle.format.specs.Base.{pick, Below, Bytes, Out, ok, refuse, map-out}
 use Rattle.format.specs.Track.{leans, Track, plain, one-bit, leaning, sparse, track-kind, track-bytes, track-categories}
-use Rattle.format.specs.Body.{Body, body-type, body-bytes, read-body, body-categories}
+use Rattle.format.specs.Body.{Body, read-body, body-categories}
 use Rattle.format.specs.Layout.{from-1-to, most-samples}
 use Rattle.format.specs.Writer.{track-for, need-categories, write-record, track-code, cleared}
 use Rattle.format.proofs.Rules.{Holds, by-test, by-need, by-bind}

@@ -1,21 +1,20 @@
 -- The writer's track: it is of the kind asked for, obeys, and stands for the categories it was made from.
 -- Assumes nothing.
-use mathlib.Core.Path.{_≡_, refl, sym, ap, ap₂, _∙_, subst}
-use Prim.Native.Nat.{ℕ, zero, suc, _+_, _≤_, _<_, zero-le}
-use native.Mathlib.Nat.{le-refl, zero-add}
+use mathlib.Core.Path.{_≡_, refl, sym, ap, _∙_}
+use Prim.Native.Nat.{ℕ, zero, suc, _+_, _<_}
+use native.Mathlib.Nat.{zero-add}
 use mathlib.Core.Bool.{Bool, true, false, not, _||_}
-use mathlib.Core.List.{List, [], _∷_, _++_, map}
+use mathlib.Core.List.{List, [], _∷_, map}
 use lib.ListN.{length, getD, replicate, length-map, length-replicate}
 use lib.Dec.{eqb}
 use native.Mathlib.Omega.{arith}
-use borrow.Author.Tests.{ne-eqb, eqb-true, eqb-false}
-use Rattle.format.specs.Base.{pick, Below, Out, ok, refuse, need}
-use Rattle.format.specs.Category.{exchange-all, just-one}
-use Rattle.format.specs.Difflist.{Entry, Rising}
-use Rattle.format.specs.PairCode.{PairCode, code-1, code-2, code-3, code-5, code-6, code-9, pair, category-of, in-pair, Coded, coded, not-coded, code-numbered}
-use Rattle.format.specs.Track.{Kind, array, paired, against-anchor, against-category, no-kind, kind, leans, Track, plain, one-bit, leaning, sparse, track-kind, Fits, rule, off-pair, off-category, off-anchor, apply, track-categories}
+use borrow.Author.Tests.{ne-eqb, eqb-true}
+use Rattle.format.specs.Base.{pick, Below}
+use Rattle.format.specs.Category.{exchange-all}
+use Rattle.format.specs.PairCode.{PairCode, pair, category-of, in-pair, Coded, coded, not-coded, code-numbered}
+use Rattle.format.specs.Track.{against-category, kind, leans, Track, one-bit, leaning, sparse, track-kind, Fits, off-pair, off-category, off-anchor, track-categories}
 use Rattle.format.specs.Writer.{differences, bits-for, pair-track, kind-track, track-for}
-use Rattle.format.proofs.Rules.{Holds, by-test, by-need}
+use Rattle.format.proofs.Rules.{Holds, by-need}
 use Rattle.format.proofs.CategoryLaws.{exchange-all-twice, exchange-all-none, exchange-all-below, just-one-self}
 use Rattle.format.proofs.DifferencesLaws.{getD-replicate, differences-rise, apply-differences}
 

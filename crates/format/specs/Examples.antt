@@ -4,7 +4,6 @@ use mathlib.Core.Path.{_≡_, refl}
 use Prim.Native.Nat.{ℕ, _-_}
 use mathlib.Core.List.{List, [], _∷_, _++_, map}
 use lib.ListN.{take, replicate}
-use Rattle.format.specs.Base.{Out, ok, refuse, numbered, bind, map-out}
 use Rattle.format.specs.Varint.{varint-within, varint-bytes, read-varint-within, read-varint}
 use Rattle.format.specs.Numbers.{number-bytes, read-number, numbers-bytes, read-numbers, read-bytes}
 use Rattle.format.specs.Packed.{byte-of, packed-after, read-packed-after}
@@ -17,7 +16,7 @@ use Rattle.format.specs.Layout.{fixed-bytes, sum, block-count, cut, bloc
 use Rattle.format.specs.Header.{read-fixed, need-fixed, with-block, read-blocks, read-blocked, plain-arrays, read-arrays, block-place, type-place, need-types, need-offsets, split-bodies, read-bodies, read-layout}
 use Rattle.format.specs.File.{file-bytes, read-records, read-all, read-file, read-over, read-variant, flip-bytes}
 use Rattle.format.specs.Writer.{differences, kind-track, need-categories, write-record}
-use Rattle.format.specs.Reply.{refusal-of, refused-at, header-call, read-call, write-call, flip-call}
+use Rattle.format.specs.Reply.{refusal-of, header-call, read-call, write-call, flip-call}
 
 infix 60 _gives_
 -- ---- what the examples are about

@@ -1,6 +1,6 @@
 -- A whole file: when it obeys, its check, what each variant reads as, and the flip of a set. K is the number of variants to a block.
 -- Assumes nothing.
-use Prim.Native.Nat.{ℕ, suc, _+_}
+use Prim.Native.Nat.{ℕ, _+_}
 use mathlib.Core.Bool.{Bool, false}
 use mathlib.Core.List.{List, [], _∷_, map}
 use lib.ListN.{length, getD}

@@ -1,8 +1,8 @@
 -- For each public call the reply and the later content of every buffer it was lent, for all inputs. K is the number of variants to a block.
 -- Assumes nothing.
-use Prim.Native.Nat.{ℕ, zero, suc, _+_, _*_, _/_, _%_, _^_}
-use mathlib.Core.Bool.{Bool, true, false, _&&_, _||_}
-use mathlib.Core.List.{List, [], _∷_, _++_}
+use Prim.Native.Nat.{ℕ, _+_, _/_, _%_, _^_}
+use mathlib.Core.Bool.{Bool, _&&_, _||_}
+use mathlib.Core.List.{List, [], _++_}
 use lib.ListN.{length, drop, getD, replicate}
 use lib.Dec.{eqb, ltb, leb}
 use Rattle.format.specs.declared.FileVariant.{FileVariant}

@@ -1,7 +1,7 @@
 -- The two variant numbers, and the anchor. K is the number of variants to a block: 65,536, and a parameter so that small blocks can be tried.
 -- Assumes nothing.
 use Prim.Native.Nat.{ℕ, zero, suc, _+_, _*_, _/_, _%_}
-use mathlib.Core.List.{List, []}
+use mathlib.Core.List.{List}
 use lib.ListN.{getD, drop}
 use Rattle.format.specs.declared.FileVariant.{FileVariant}
 use Rattle.format.specs.declared.BlockVariant.{BlockVariant}

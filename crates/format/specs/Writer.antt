@@ -1,11 +1,11 @@
 -- The writer: the track that a kind and a pair code give for a row of categories.
 -- Assumes nothing.
-use Prim.Native.Nat.{ℕ, zero, suc}
+use Prim.Native.Nat.{ℕ, suc}
 use mathlib.Core.Bool.{Bool, true, false}
 use mathlib.Core.List.{List, [], _∷_, map}
 use lib.ListN.{length, replicate}
 use lib.Dec.{eqb, ltb, leb}
-use Rattle.format.specs.Base.{pick, Out, ok, refuse, bind, map-out, need}
+use Rattle.format.specs.Base.{pick, Out, ok, refuse, bind, need}
 use Rattle.format.specs.Category.{exchange-all}
 use Rattle.format.specs.Difflist.{Entry}
 use Rattle.format.specs.PairCode.{PairCode, pair, category-of, Coded, coded, not-coded, code-numbered}
