@@ -41,3 +41,4 @@ pub mod AnchorByIndex
 pub mod BytesLaws
 pub mod CallLaws
 pub mod Orders
+pub mod InOrderLaws
