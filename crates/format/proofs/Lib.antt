@@ -42,3 +42,4 @@ pub mod BytesLaws
 pub mod CallLaws
 pub mod Orders
 pub mod InOrderLaws
+pub mod RecordTurns

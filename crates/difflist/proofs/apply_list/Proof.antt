@@ -1,0 +1,51 @@
+-- `difflist::apply_list` meets its contract.
+-- Assumes nothing.
+use Rattle.difflist.proofs.Agrees.{end-listed, end-cleared, end-kept}
+use borrow.Author.Needs.{needs}
+use Rattle.difflist.proofs.apply_list.Statement.{statement}
+use Rattle.difflist.proofs.apply_list.Tie as tie
+
+run-list-requires : tie.Need-run-list-requires
+run-list-requires c κs = search needs
+
+enum-known-got : tie.Need-enum-known-got
+enum-known-got c = search needs
+
+enum-known-got-2 : tie.Need-enum-known-got-2
+enum-known-got-2 c = search needs
+
+clear-requires : tie.Need-clear-requires
+clear-requires c κs = search needs
+
+same-length : tie.Need-same-length
+same-length c = search needs
+
+returns : tie.Need-returns
+returns c = end-cleared (c .before .before .before .before .before .before .before .before .before .before .before .before .before .before .args .s .now) (c .before .before .before .before .before .before .before .before .before .before .before .before .before .before .args .c .at) (c .before .before .before .before .before .before .before .before .before .before .before .before .before .before .args .n) (c .before .before .before .before .before .before .before .before .before .before .before .before .before .before .args .store) (c .before .before .before .before .before .before .before .before .before .before .before .before .before .before .args .held) (c .before .before .before .before .before .before .before .before .before .before .before .before .before .before .args .row .now) (λ i. c .before .before .before .before .before .before .before .before .before .before .before .before .before .shared-slice-known .given i .fits) (c .before .before .before .before .before .before .before .before .before .before .before .before .before .before .pre .0) (c .before .before .before .before .before .before .before .before .before .before .before .before .before .before .pre .1 .0) (c .before .before .before .before .before .before .before .before .before .before .run-list .result) (c .before .before .before .before .before .before .before .before .before .before .run-list .last .1 .1 .1 .1 .1 .0) (c .before .before .before .before .before .before .before .before .before .before .run-list .ensures) (c .before .before .before .before .before .before .got2 .given .0 .0) (c .before .before .before .before .before .before .got2 .given .0 .1 .0) _ (c .before .before .before .before .before .before .got2 .given .1) (c .before .before .before .before .if1 .taken) (c .before .before .clear .ensures)
+
+same-length-2 : tie.Need-same-length-2
+same-length-2 c = search needs
+
+returns-2 : tie.Need-returns-2
+returns-2 c = end-listed (c .before .before .before .before .before .before .before .before .before .args .s .now) (c .before .before .before .before .before .before .before .before .before .args .c .at) (c .before .before .before .before .before .before .before .before .before .args .n) (c .before .before .before .before .before .before .before .before .before .args .store) (c .before .before .before .before .before .before .before .before .before .args .held) (c .before .before .before .before .before .before .before .before .before .args .row .now) (λ i. c .before .before .before .before .before .before .before .before .shared-slice-known .given i .fits) (c .before .before .before .before .before .before .before .before .before .pre .0) (c .before .before .before .before .before .before .before .before .before .pre .1 .0) (c .before .before .before .before .before .run-list .result) (c .before .before .before .before .before .run-list .last .1 .1 .1 .1 .1 .0) (c .before .before .before .before .before .run-list .ensures) (c .before .got .given .0 .0) (c .before .got .given .1)
+
+same-length-3 : tie.Need-same-length-3
+same-length-3 c = search needs
+
+returns-3 : tie.Need-returns-3
+returns-3 c = end-kept (c .before .before .before .before .before .before .before .before .before .before .args .s .now) (c .before .before .before .before .before .before .before .before .before .before .args .c .at) (c .before .before .before .before .before .before .before .before .before .before .args .n) (c .before .before .before .before .before .before .before .before .before .before .args .store) (c .before .before .before .before .before .before .before .before .before .before .args .held) (c .before .before .before .before .before .before .before .before .before .before .args .row .now) (λ i. c .before .before .before .before .before .before .before .before .before .shared-slice-known .given i .fits) (c .before .before .before .before .before .before .before .before .before .before .pre .0) (c .before .before .before .before .before .before .before .before .before .before .pre .1 .0) (c .before .before .before .before .before .before .run-list .result) (c .before .before .before .before .before .before .run-list .last .1 .1 .1 .1 .1 .0) (c .before .before .before .before .before .before .run-list .ensures) (c .before .before .got2 .given .0 .0) (c .before .before .got2 .given .0 .1 .0) (c .before .before .got2 .given .1) (c .if1 .left)
+
+pub apply-list-spec : {M : Type 1} → statement M
+apply-list-spec =
+    tie.close
+    (tie.spec
+    run-list-requires
+    enum-known-got
+    enum-known-got-2
+    clear-requires
+    same-length
+    returns
+    same-length-2
+    returns-2
+    same-length-3
+    returns-3)

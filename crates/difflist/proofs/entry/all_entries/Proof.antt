@@ -1,0 +1,68 @@
+-- `difflist::entry::all_entries` meets its contract.
+-- Assumes nothing.
+use native.Mathlib.Omega.{arith}
+use mathlib.Core.Path.{refl}
+use borrow.Author.Needs.{needs}
+use Rattle.difflist.specs.Entries.{all-entries}
+use lib.ListN.{length}
+use Rattle.difflist.proofs.RoomLaws.{ready}
+use Rattle.difflist.proofs.LoopLaws.{Inv, turn-done, turn-stop, turn-on}
+use Rattle.difflist.proofs.entry.all_entries.Statement.{statement}
+use Rattle.difflist.proofs.entry.all_entries.Tie as tie
+
+abbrev Inv-loop : tie.InvT-loop
+Inv-loop s n values store held count row₀ st₀ more₀ row st more = Inv s n values store held (length row₀) (all-entries count s n values store held st₀ row₀) row st more
+
+abbrev μ-loop : tie.MeasureT-loop
+μ-loop s n values store held count row₀ st₀ more₀ row st more = more
+
+loop-holds : tie.Need-loop-holds Inv-loop μ-loop
+loop-holds c = record { same = refl; room = c .before .before .pre .0; keeps = refl }
+
+next-entry-requires : tie.Need-next-entry-requires Inv-loop μ-loop
+next-entry-requires c κs = (ready (c .before .before .before .before .before .args .s .now) (c .before .before .before .before .before .args .n) (c .before .before .before .before .before .args .values) (c .before .before .loop .more) (c .before .before .loop .st) (c .before .loop-test .taken) (c .before .before .loop .inv .room), (omega (arith, c .before .before .loop .inv .keeps, c .before .before .before .before .before .pre .1), omega (arith, c .before .before .loop .inv .room .values, c .before .loop-test .taken)))
+
+enum-known-got : tie.Need-enum-known-got Inv-loop μ-loop
+enum-known-got c = search needs
+
+same-length : tie.Need-same-length Inv-loop μ-loop
+same-length c = search needs
+
+returns : tie.Need-returns Inv-loop μ-loop
+returns c = turn-stop (c .before .before .before .before .before .before .before .before .loop .inv) (c .before .before .before .before .before .before .before .loop-test .taken) (c .before .before .before .before .before .next-entry .ensures) (c .before .got .given .1)
+
+enum-known-got-2 : tie.Need-enum-known-got-2 Inv-loop μ-loop
+enum-known-got-2 c = search needs
+
+sub-more : tie.Need-sub-more Inv-loop μ-loop
+sub-more c = search needs
+
+loop-less : tie.Need-loop-less Inv-loop μ-loop
+loop-less c = search needs
+
+loop-again : tie.Need-loop-again Inv-loop μ-loop
+loop-again c = let y = c .before .before .before .before .before .before .before .before .before .before .shared-slice-known .given in turn-on (c .before .before .before .before .before .before .before .before .loop .inv) (c .before .before .before .before .before .before .before .loop-test .taken) (λ i. y i .fits) (c .before .before .before .before .before .next-entry .ensures) (c .before .got2 .given .1)
+
+same-length-2 : tie.Need-same-length-2 Inv-loop μ-loop
+same-length-2 c = search needs
+
+returns-2 : tie.Need-returns-2 Inv-loop μ-loop
+returns-2 c = turn-done (c .before .loop .inv) (c .loop-test .left)
+
+pub all-entries-spec : {M : Type 1} → statement M
+all-entries-spec =
+    tie.close
+    (tie.spec
+    Inv-loop
+    μ-loop
+    loop-holds
+    next-entry-requires
+    enum-known-got
+    same-length
+    returns
+    enum-known-got-2
+    sub-more
+    loop-less
+    loop-again
+    same-length-2
+    returns-2)

@@ -1,0 +1,4 @@
+pub mod Entries
+pub mod Room
+pub mod Parts
+pub mod Listed

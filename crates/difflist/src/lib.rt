@@ -1,0 +1,163 @@
+// A difference list, checked and put into a row that holds what it is against (01, Difference lists): one function over the number width and
+// the rule of what a list may hold. Every slice `s` is the file cut where the record ends, so that its length is the record's end.
+use cursor::Cursor;
+use cursor::VarintStep;
+use packed::Width;
+ghost use mathlib.Core.Path.{_≡_};
+ghost use Prim.Native.Nat.{_≤_, _<_};
+ghost use lib.ListN.{length};
+ghost use Rattle.cursor.specs.Steps.{varint-at};
+ghost use Rattle.difflist.specs.Entries.{out};
+ghost use Rattle.difflist.specs.Parts.{count-of, lay-out, list-run};
+ghost use Rattle.difflist.specs.Listed.{listed};
+
+pub mod entry;
+
+use crate::entry::all_entries;
+use crate::entry::number_width;
+
+// 01, Categories and kinds: "No list holds a value it need not": none in the pair, or none that the row has for that sample.
+pub enum ListRule {
+    OffPair(u8, u8),
+    OffRow,
+}
+
+// The cursor after a list, or a refusal.
+pub enum ListStep {
+    Listed(Cursor),
+    Refused { number: u8, place: usize },
+}
+
+// Where the walk through the entries is: `room` entries are still to come in this group, whose steps start at `from`; `last` is the sample
+// before; the next head, size byte and step stand at `head`, `size` and `at`; `passed` entries have been passed.
+pub struct State {
+    pub room: usize,
+    pub from: usize,
+    pub last: usize,
+    pub head: usize,
+    pub size: usize,
+    pub passed: usize,
+    pub at: usize,
+}
+
+pub enum EntryStep {
+    On(State),
+    Stop { number: u8, place: usize },
+}
+
+pub enum CountStep {
+    Of(usize, Cursor),
+    NotOf { number: u8, place: usize },
+}
+
+pub enum PartsStep {
+    Fits { values: usize, first: State },
+    Unfit { number: u8, place: usize },
+}
+
+// 01: "A count L, at most N, as a varint." Its refusals: 12, 15, 16.
+fn read_count(s: &[u8], n: usize, c: Cursor) -> CountStep
+    requires { ⌜ c .at ≤ length (now s) ⌝ }
+    ensures { λ r. ⌜ r ≡ count-of (varint-at (now (s .entry)) (c .at)) n (c .at) ⌝ }
+{
+    let at = c.at;
+    let got = c.varint(s);
+    match got {
+        VarintStep::Refused { number, place } => CountStep::NotOf { number, place },
+        VarintStep::Value(m, next) => {
+            if m > n {
+                return CountStep::NotOf {
+                    number: 16,
+                    place: at,
+                };
+            }
+            CountStep::Of(m, next)
+        }
+    }
+}
+
+// 01, Replies: "the heads, size bytes and values must fit; unused value bits (18)". The parts of a list of m entries, whose heads start at `at`.
+fn lay_parts(s: &[u8], n: usize, m: usize, at: usize) -> PartsStep
+    requires { ⌜ (at ≤ length (now s)) × (0 < m) × (m ≤ 65536) ⌝ }
+    ensures { λ r. ⌜ r ≡ lay-out (now (s .entry)) n m at ⌝ }
+{
+    let groups = (m + 63) / 64;
+    let size = at + number_width(n) * groups;
+    let values = size + (groups - 1);
+    let steps = values + (m + 3) / 4;
+    if steps > s.len() {
+        return PartsStep::Unfit {
+            number: 12,
+            place: s.len(),
+        };
+    }
+    if packed::unused_bits(s, values, m, Width::Two) != 0 {
+        return PartsStep::Unfit {
+            number: 18,
+            place: steps - 1,
+        };
+    }
+    PartsStep::Fits {
+        values,
+        first: State {
+            room: 0,
+            from: steps,
+            last: 0,
+            head: at,
+            size,
+            passed: 0,
+            at: steps,
+        },
+    }
+}
+
+// A list, whose entries stay in the row where a later one is refused.
+fn run_list(s: &[u8], n: usize, held: ListRule, store: bool, c: Cursor, row: &mut [u8]) -> ListStep
+    requires { ⌜ c .at ≤ length (now s) ⌝ }
+    requires { ⌜ (n ≤ length (now row)) × (n ≤ 65536) ⌝ }
+    ensures { λ r. ⌜ out r (now (row .exit)) ≡ list-run (now (s .entry)) (c .at) n store held (now (row .entry)) ⌝ }
+{
+    let counted = read_count(s, n, c);
+    match counted {
+        CountStep::NotOf { number, place } => ListStep::Refused { number, place },
+        CountStep::Of(m, next) => {
+            if m == 0 {
+                return ListStep::Listed(next);
+            }
+            let laid = lay_parts(s, n, m, next.at);
+            match laid {
+                PartsStep::Unfit { number, place } => ListStep::Refused { number, place },
+                PartsStep::Fits { values, first } => {
+                    all_entries(s, n, values, store, held, first, m, row)
+                }
+            }
+        }
+    }
+}
+
+// The list at `c`, of n samples. With `store` its values are put into the row's first n bytes, which hold what the list is against, and a
+// refusal leaves them zero; without it the list is only checked and the row stays.
+pub fn apply_list(
+    s: &[u8],
+    n: usize,
+    held: ListRule,
+    store: bool,
+    c: Cursor,
+    row: &mut [u8],
+) -> ListStep
+    requires { ⌜ c .at ≤ length (now s) ⌝ }
+    requires { ⌜ (n ≤ length (now row)) × (n ≤ 65536) ⌝ }
+    ensures { λ r. ⌜ out r (now (row .exit)) ≡ listed store held n (now (s .entry)) (c .at) (now (row .entry)) ⌝ }
+{
+    let got = run_list(s, n, held, store, c, row);
+    match got {
+        ListStep::Listed(next) => ListStep::Listed(next),
+        ListStep::Refused { number, place } => {
+            if store {
+                packed::clear(row, n);
+                return ListStep::Refused { number, place };
+            }
+            ListStep::Refused { number, place }
+        }
+    }
+}

@@ -1,0 +1,177 @@
+-- Refusals 7, 8 and 9, and acceptance, in mode 0x10: each step of the code.
+-- Assumes nothing.
+use mathlib.Core.Path.{_≡_, refl, sym, ap, _∙_}
+use Prim.Native.Nat.{ℕ, _+_, _-_, _*_, _/_, _≤_, _<_}
+use native.Mathlib.Nat.{zero-mul, div-one}
+use mathlib.Core.Bool.{Bool, true, false}
+use mathlib.Core.List.{List, []}
+use lib.ListN.{length, drop}
+use lib.Dec.{ltb, lit<}
+use native.Mathlib.Omega.{arith}
+use borrow.Author.Tests.{lt-ltb, le-ltb, ltb-true, ltb-false}
+use Rattle.format.specs.declared.FileVariant.{FileVariant}
+use Rattle.format.specs.declared.BlockVariant.{BlockVariant}
+use Rattle.format.specs.declared.HeaderReply.the-variants.{Accepted, Refused}
+use Rattle.format.specs.Base.{pick, ok, refuse}
+use Rattle.format.specs.Variant.{file-variant, block-of, in-block}
+use Rattle.format.specs.Layout.{Fixed, plain-mode, form-of, Arrays, sum, block-count, block-size, header-end}
+use Rattle.format.specs.Header.{block-place, type-place}
+use Rattle.format.specs.Reply.{summary, header-left}
+use Rattle.format.proofs.BlocksLaws.{block-count-is}
+use Rattle.format.proofs.ByIndex.{block-variants}
+use Rattle.format.proofs.RefusalsByIndex.{fixed-at, after-fixed}
+use Rattle.format.proofs.RefusalsByIndexArrays.{need-unused, unused-arrays, Passed, passed-known}
+use Rattle.format.proofs.RefusalsByIndexRecords.{bad-type, wrong-offset, starts-of, after-types, after-offsets, refusal-8, refusal-9-offset}
+use Rattle.blocks.specs.declared.Fields.{Fields}
+use Rattle.blocks.specs.declared.Blocks.{Blocks}
+use Rattle.blocks.specs.declared.Unused.{Unused}
+use Rattle.blocks.specs.declared.Unused.the-variants.{Clear, At}
+use Rattle.blocks.specs.Parts.{fixed, blocks-of, form-in, BlocksSmall, count-in, BlocksFit, Arranged, unused-out}
+use Rattle.columns.specs.declared.Ends.{Ends}
+use Rattle.columns.specs.declared.Ends.the-variants.{WrongOffset, RecordsEnd}
+use Rattle.columns.specs.Ending.{ending}
+use Rattle.header.specs.Ready.{Held, Cleared}
+use Rattle.header.proofs.Handed.{Ranges, ranges, refused, seven, beyond-7, nine-end, accepts}
+use Rattle.header.proofs.BlockedLaws.{blocks-fit, last-unused}
+
+-- ---- the place of a type
+
+place-from : (f : Fixed) (j : ℕ) → blocks-of f .at + j * blocks-of f .full ≡ block-place 65536 f j
+unfolding block-place
+place-from f j = omega (arith, zero-mul (block-size (form-of f) 65536))
+
+pub half-place : (b : Blocks) (v : FileVariant) (block : ℕ) (i : BlockVariant) → b .half ≡ true → block ≡ block-of 65536 v → i ≡ in-block 65536 v
+    → (f : Fixed) → b ≡ blocks-of f → b .at + block * b .full + i .0 / 2 ≡ type-place 65536 f v
+unfolding type-place
+half-place b v block i h d k f e =
+    let t : blocks-of f .half ≡ true = rw e at h in
+    rw (e, d, k, place-from f (block-of 65536 v), t) refl
+
+pub whole-place : (b : Blocks) (v : FileVariant) (block : ℕ) (i : BlockVariant) → b .half ≡ false → block ≡ block-of 65536 v → i ≡ in-block 65536 v
+    → (f : Fixed) → b ≡ blocks-of f → b .at + block * b .full + i .0 ≡ type-place 65536 f v
+unfolding type-place
+whole-place b v block i h d k f e =
+    let t : blocks-of f .half ≡ false = rw e at h in
+    rw (e, d, k, place-from f (block-of 65536 v), t, div-one) refl
+
+-- ---- 7
+
+module _ (bs : List ℕ) (f : Fields) (b : Blocks) (end : ℕ) (h : Held bs f end) (blocked : plain-mode (fixed f) ≡ false) (e : b ≡ blocks-of (fixed f)) (small : BlocksSmall b) where
+  pub fit : BlocksFit bs (f .variants) b
+  fit =
+      let r : Ranges f = ranges bs f (h .ready) in
+      blocks-fit (fixed f) blocked (r .variants-least) (r .variants-most) bs b e small (rw (← h .end-is) (h .fits))
+
+  -- the last block's arrays among them
+  pub last-fits : (n : ℕ) → n ≡ count-in (f .variants) ((f .variants - 1) / 65536)
+      → b .at + (f .variants - 1) / 65536 * b .full + block-size (form-in b) n ≤ length bs
+  last-fits n d = rw d (fit .each ((f .variants - 1) / 65536) (omega (arith, ranges bs f (h .ready) .variants-least)))
+
+  -- what a look at the last block says of all
+  pub all-unused : (n : ℕ) (r : Unused) → n ≡ count-in (f .variants) ((f .variants - 1) / 65536)
+      → unused-out r ≡ need-unused (form-in b) (b .at + (f .variants - 1) / 65536 * b .full) n bs (ok tt []) → unused-arrays 65536 (fixed f) bs ≡ unused-out r
+  unfolding block-variants
+  all-unused n r d u =
+      let g : Ranges f = ranges bs f (h .ready) in
+      last-unused (fixed f) bs blocked (g .variants-least) (g .variants-most) (h .ready .bytes) (rw (← h .end-is) (h .fits))
+      ∙ sym (rw (d, e, place-from (fixed f) ((f .variants - 1) / 65536)) at u)
+
+  pub clears : (r : Unused) → unused-arrays 65536 (fixed f) bs ≡ unused-out r → r ≡ Clear → Cleared bs f b end
+  clears r u q = record { held = h; blocked = blocked; b-is = e; small = small; clear = rw q at u }
+
+  pub unclear : (r : Unused) (place : ℕ) → unused-arrays 65536 (fixed f) bs ≡ unused-out r → r ≡ At place → header-left (Refused 7 place) ≡ summary (after-fixed 65536 bs)
+  unclear r place u q = seven bs f end h place (rw q at u)
+
+-- ---- 8
+
+module _ (bs : List ℕ) (f : Fields) (b : Blocks) (end : ℕ) (c : Cleared bs f b end) where
+  pub parts : (a : Arrays) × Passed 65536 bs a
+  parts = beyond-7 bs f end (c .held) (c .clear)
+
+  pub arranged : (a : Arrays) → Passed 65536 bs a → Arranged bs (f .variants) b (fixed-at bs) a (drop (header-end 65536 (fixed-at bs)) bs)
+  arranged a p = record {
+    parts = p .parts;
+    known = passed-known 65536 bs a (lit< tt) (rw (c .held .ready .same) (c .blocked)) p;
+    m-is = sym (ap (λ (z : Fixed). z .variants) (c .held .ready .same));
+    b-is = c .b-is ∙ ap blocks-of (sym (c .held .ready .same));
+  }
+
+  count : fixed-at bs .variants ≡ f .variants
+  count = ap (λ (z : Fixed). z .variants) (c .held .ready .same)
+
+  module _ (v : FileVariant) (k : (f₁ : Fixed) (a : Arrays) (records : List ℕ) → Arranged bs (f .variants) b f₁ a records → v ≡ bad-type 65536 (file-variant 0) (a .columns .types)) where
+    decided : after-fixed 65536 bs ≡ pick (ltb (v .0) (fixed-at bs .variants)) (refuse 8 (type-place 65536 (fixed-at bs) v)) (after-types 65536 bs (parts .0))
+    decided =
+        let a : Arrays = parts .0 in
+        let w : v ≡ bad-type 65536 (file-variant 0) (a .columns .types) = k (fixed-at bs) a _ (arranged a (parts .1)) in
+        rw (← w) at (refusal-8 65536 bs a (parts .1))
+
+    pub bad-8 : (place : ℕ) → ((f₁ : Fixed) → b ≡ blocks-of f₁ → place ≡ type-place 65536 f₁ v) → v .0 < f .variants
+        → header-left (Refused 8 place) ≡ summary (after-fixed 65536 bs)
+    bad-8 place q l =
+        let d : place ≡ type-place 65536 (fixed-at bs) v = q (fixed-at bs) (c .b-is ∙ ap blocks-of (sym (c .held .ready .same))) in
+        refused 8 place (after-fixed 65536 bs) (decided ∙ simp (lt-ltb (v .0) (fixed-at bs .variants) (omega (arith, count))) (ap (refuse 8) (sym d)))
+
+    pub beyond-8 : f .variants ≤ v .0 → after-fixed 65536 bs ≡ after-types 65536 bs (parts .0)
+    beyond-8 l = decided ∙ simp (le-ltb (v .0) (fixed-at bs .variants) (omega (arith, count)))
+
+-- ---- 9
+
+-- what was found, by cases
+pub wrong-found : (j wrong blocks last : ℕ) → WrongOffset j ≡ ending wrong blocks last → (j ≡ wrong) × (wrong < blocks)
+wrong-found j wrong blocks last e = go (ltb wrong blocks) (ltb-true wrong blocks) e
+  where
+    go : (t : Bool) → (t ≡ true → wrong < blocks) → WrongOffset j ≡ pick t (WrongOffset wrong) (RecordsEnd last) → (j ≡ wrong) × (wrong < blocks)
+    go true f q = (cc, f refl)
+    go false f q = absurd (let z : _≡_ {A = ℕ} 0 1 = cc in omega arith)
+
+pub end-found : (x wrong blocks last : ℕ) → RecordsEnd x ≡ ending wrong blocks last → (x ≡ last) × (blocks ≤ wrong)
+end-found x wrong blocks last e = go (ltb wrong blocks) (ltb-false wrong blocks) e
+  where
+    go : (t : Bool) → (t ≡ false → blocks ≤ wrong) → RecordsEnd x ≡ pick t (WrongOffset wrong) (RecordsEnd last) → (x ≡ last) × (blocks ≤ wrong)
+    go true f q = absurd (let z : _≡_ {A = ℕ} 0 1 = cc in omega arith)
+    go false f q = (cc, f refl)
+
+abbrev pub EndsAre : List ℕ → Fields → Blocks → ℕ → Ends → Type 0
+EndsAre bs f b end r = (f₁ : Fixed) (a : Arrays) (records : List ℕ) → Arranged bs (f .variants) b f₁ a records → end ≡ header-end 65536 f₁
+    → r ≡ ending (wrong-offset 0 (a .offsets) (starts-of 65536 f₁ a)) ((f .variants + 65535) / 65536) (end + sum (a .columns .lengths))
+
+module _ (bs : List ℕ) (f : Fields) (b : Blocks) (end : ℕ) (c : Cleared bs f b end) (r : Ends) (k : EndsAre bs f b end r) where
+  ending-is : (a : Arrays) → Passed 65536 bs a
+      → r ≡ ending (wrong-offset 0 (a .offsets) (starts-of 65536 (fixed-at bs) a)) ((f .variants + 65535) / 65536) (end + sum (a .columns .lengths))
+  ending-is a p = k (fixed-at bs) a _ (arranged bs f b end c a p) (c .held .end-is ∙ ap (header-end 65536) (sym (c .held .ready .same)))
+
+  blocks-are : block-count 65536 (fixed-at bs) ≡ (f .variants + 65535) / 65536
+  blocks-are =
+      ap (block-count 65536) (c .held .ready .same) ∙ block-count-is 65536 (fixed f) (c .blocked)
+
+  -- a wrong offset has a place
+  pub few-blocks : (j : ℕ) → r ≡ WrongOffset j → j ≤ 256
+  few-blocks j q =
+      let a : Arrays = parts bs f b end c .0 in
+      let w = wrong-found j (wrong-offset 0 (a .offsets) (starts-of 65536 (fixed-at bs) a)) ((f .variants + 65535) / 65536) (end + sum (a .columns .lengths)) (sym q ∙ ending-is a (parts bs f b end c .1)) in
+      omega (arith, w .0, w .1, ranges bs f (c .held .ready) .variants-most)
+
+  pub nine-offset : (j : ℕ) → r ≡ WrongOffset j → (a : Arrays) → Passed 65536 bs a → header-left (Refused 9 (12 + 8 * j)) ≡ summary (after-types 65536 bs a)
+  nine-offset j q a p =
+      let w = wrong-found j (wrong-offset 0 (a .offsets) (starts-of 65536 (fixed-at bs) a)) ((f .variants + 65535) / 65536) (end + sum (a .columns .lengths)) (sym q ∙ ending-is a p) in
+      let l : wrong-offset 0 (a .offsets) (starts-of 65536 (fixed-at bs) a) < block-count 65536 (fixed-at bs) = omega (arith, w .1, blocks-are) in
+      let d : after-types 65536 bs a ≡ refuse 9 (12 + 8 * j)
+      = refusal-9-offset 65536 bs a p ∙ simp (lt-ltb (wrong-offset 0 (a .offsets) (starts-of 65536 (fixed-at bs) a)) (block-count 65536 (fixed-at bs)) l) (ap (λ (z : ℕ). refuse 9 (12 + 8 * z)) (sym (w .0))) in
+      refused 9 (12 + 8 * j) (after-types 65536 bs a) d
+
+  module _ (x : ℕ) (q : r ≡ RecordsEnd x) (a : Arrays) (p : Passed 65536 bs a) where
+    beyond-9 : after-types 65536 bs a ≡ after-offsets 65536 bs a
+    beyond-9 =
+        let w = end-found x (wrong-offset 0 (a .offsets) (starts-of 65536 (fixed-at bs) a)) ((f .variants + 65535) / 65536) (end + sum (a .columns .lengths)) (sym q ∙ ending-is a p) in
+        let l : block-count 65536 (fixed-at bs) ≤ wrong-offset 0 (a .offsets) (starts-of 65536 (fixed-at bs) a) = omega (arith, w .1, blocks-are) in
+        refusal-9-offset 65536 bs a p ∙ simp (le-ltb (wrong-offset 0 (a .offsets) (starts-of 65536 (fixed-at bs) a)) (block-count 65536 (fixed-at bs)) l)
+
+    total : x ≡ end + sum (a .columns .lengths)
+    total = end-found x (wrong-offset 0 (a .offsets) (starts-of 65536 (fixed-at bs) a)) ((f .variants + 65535) / 65536) (end + sum (a .columns .lengths)) (sym q ∙ ending-is a p) .0
+
+    pub nine-last : (x ≡ length bs → ⊥) → header-left (Refused 9 (length bs)) ≡ summary (after-types 65536 bs a)
+    nine-last n = nine-end bs f end (c .held) a p (after-types 65536 bs a) beyond-9 (λ s. n (total ∙ s))
+
+    pub accepted-last : x ≡ length bs → header-left (Accepted (f .mode) (f .variants) (f .samples) (f .form)) ≡ summary (after-types 65536 bs a)
+    accepted-last n = accepts bs f end (c .held) a p (after-types 65536 bs a) beyond-9 (sym total ∙ n)

@@ -1,0 +1,216 @@
+// The header check: refusals 1 to 9 in their order, each at its place.
+ghost use mathlib.Core.Path.{_≡_};
+ghost use Prim.Native.Nat.{_≤_, _<_};
+ghost use lib.ListN.{length};
+ghost use Rattle.format.specs.Header.{type-place};
+ghost use Rattle.format.specs.Layout.{Fixed, Arrays, mode-covered, from-1-to, form-allowed};
+ghost use Rattle.format.specs.Reply.{summary, header-left, header-call};
+ghost use Rattle.format.proofs.RefusalsByIndex.{after-fixed};
+ghost use Rattle.format.proofs.RefusalsByIndexArrays.{Passed};
+ghost use Rattle.format.proofs.RefusalsByIndexRecords.{after-types};
+ghost use Rattle.blocks.specs.Parts.{blocks-of, BlocksSmall};
+ghost use Rattle.header.specs.Ready.{Ready, Held, Cleared};
+use blocks::Blocks;
+use blocks::Fields;
+use blocks::Unused;
+use blocks::blocks_of;
+use blocks::fields_at;
+use blocks::flags_clear;
+use blocks::header_end;
+use blocks::unused_in;
+use columns::Ends;
+use columns::bad_type;
+use columns::count_in;
+use columns::records_end;
+use format::FileVariant;
+use format::HeaderReply;
+use format::block_of;
+use format::in_block;
+use numbers::number_at;
+
+// 01, What the software covers: "storage modes 0x02 and 0x10"
+fn mode_covered(mode: u8) -> bool
+    ensures { λ r. ⌜ r ≡ mode-covered mode ⌝ }
+{
+    if mode == 0x02 {
+        return true;
+    }
+    mode == 0x10
+}
+
+// 01: "samples N from 1 to 65,536; variants M from 1 to 16,777,216"
+fn from_1_to(most: usize, n: usize) -> bool
+    ensures { λ r. ⌜ r ≡ from-1-to most n ⌝ }
+{
+    if n < 1 {
+        return false;
+    }
+    n <= most
+}
+
+// 01, The header: "Mode 0x02: must be 0. Bits 4 and 5: must be 0. Bits 6 and 7: any"
+fn form_allowed(mode: u8, form: u8) -> bool
+    ensures { λ r. ⌜ r ≡ form-allowed mode form ⌝ }
+{
+    if mode == 0x02 {
+        return form % 64 < 1;
+    }
+    form % 64 < 8
+}
+
+// Refusals 7 and 9 in mode 0x02: one array of flag bits, if stored, and records of one length.
+fn check_plain(file: &[u8], f: Fields, end: usize) -> HeaderReply
+    requires { ⌜ Held (now file) f end × (f .mode ≡ 0x02) ⌝ }
+    ensures { λ r. ⌜ header-left r ≡ summary (after-fixed 65536 (now (file .entry))) ⌝ }
+{
+    if !flags_clear(file, 12, f.variants, f.form / 64 == 3) {
+        return HeaderReply::Refused {
+            number: 7,
+            place: end - 1,
+        };
+    }
+    // 01: "Every record has type 0 and ceil(N/4) bytes."
+    if end + f.variants * ((f.samples + 3) / 4) != file.len() {
+        return HeaderReply::Refused {
+            number: 9,
+            place: file.len(),
+        };
+    }
+    HeaderReply::Accepted {
+        mode: f.mode,
+        variants: f.variants,
+        samples: f.samples,
+        form: f.form,
+    }
+}
+
+// 01, Replies: the place of refusal 8, the "byte holding it".
+fn type_place(b: Blocks, v: FileVariant) -> usize
+    requires { ⌜ BlocksSmall b × (v .0 < 16777216) ⌝ }
+    ensures { λ r. ⌜ ((f : Fixed) → b ≡ blocks-of f → r ≡ type-place 65536 f v) ⌝ }
+{
+    let at = b.at + block_of(v) * b.full;
+    let i = in_block(v);
+    if b.half {
+        return at + i.0 / 2;
+    }
+    at + i.0
+}
+
+// 9, "block offset wrong, or records don't end at the file's end", in mode 0x10.
+fn check_ends(file: &[u8], f: Fields, b: Blocks, end: usize) -> HeaderReply
+    requires { ⌜ Cleared (now file) f b end ⌝ }
+    ensures { λ r. ⌜ ((a : Arrays) → Passed 65536 (now (file .entry)) a → header-left r ≡ summary (after-types 65536 (now (file .entry)) a)) ⌝ }
+{
+    match records_end(file, f.variants, b, end) {
+        Ends::WrongOffset(block) => HeaderReply::Refused {
+            number: 9,
+            place: 12 + 8 * block,
+        },
+        Ends::RecordsEnd(last) => {
+            if last != file.len() as u64 {
+                return HeaderReply::Refused {
+                    number: 9,
+                    place: file.len(),
+                };
+            }
+            HeaderReply::Accepted {
+                mode: f.mode,
+                variants: f.variants,
+                samples: f.samples,
+                form: f.form,
+            }
+        }
+    }
+}
+
+// 8, "type not allowed", then 9.
+fn check_types(file: &[u8], f: Fields, b: Blocks, end: usize) -> HeaderReply
+    requires { ⌜ Cleared (now file) f b end ⌝ }
+    ensures { λ r. ⌜ header-left r ≡ summary (after-fixed 65536 (now (file .entry))) ⌝ }
+{
+    let v = bad_type(file, f.variants, b);
+    if v.0 < f.variants {
+        return HeaderReply::Refused {
+            number: 8,
+            place: type_place(b, v),
+        };
+    }
+    check_ends(file, f, b, end)
+}
+
+// 7, "unused header bits set", then 8 and 9, in mode 0x10. Every block but the last is full, and the arrays of a full block fill their bytes.
+fn check_blocked(file: &[u8], f: Fields, end: usize) -> HeaderReply
+    requires { ⌜ Held (now file) f end × (f .mode ≡ 0x02 → ⊥) ⌝ }
+    ensures { λ r. ⌜ header-left r ≡ summary (after-fixed 65536 (now (file .entry))) ⌝ }
+{
+    let b = blocks_of(f);
+    let last = (f.variants - 1) / 65536;
+    match unused_in(file, b.at + last * b.full, count_in(f.variants, last), b) {
+        Unused::At(place) => HeaderReply::Refused { number: 7, place },
+        Unused::Clear => check_types(file, f, b, end),
+    }
+}
+
+// 6, "file ends inside the header", then 7 to 9.
+fn check_arrays(file: &[u8], f: Fields) -> HeaderReply
+    requires { ⌜ Ready (now file) f ⌝ }
+    ensures { λ r. ⌜ header-left r ≡ summary (after-fixed 65536 (now (file .entry))) ⌝ }
+{
+    let end = header_end(f);
+    if file.len() < end {
+        return HeaderReply::Refused {
+            number: 6,
+            place: file.len(),
+        };
+    }
+    if f.mode == 0x02 {
+        return check_plain(file, f, end);
+    }
+    check_blocked(file, f, end)
+}
+
+// 01, Replies: "1 to 11 by number, the lowest place first within a number". 1, "file under 12 bytes"; 2, "magic wrong"; 3, "mode not covered";
+// 4, "M or N outside its range", "M first"; 5, "form not allowed"; then 6 to 9.
+pub fn check(file: &[u8]) -> HeaderReply
+    ensures { λ r. ⌜ header-left r ≡ header-call 65536 (now (file .entry)) ⌝ }
+{
+    if file.len() < 12 {
+        return HeaderReply::Refused {
+            number: 1,
+            place: file.len(),
+        };
+    }
+    if number_at(file, 0, 2) != 0x1b6c {
+        return HeaderReply::Refused {
+            number: 2,
+            place: 0,
+        };
+    }
+    let f = fields_at(file);
+    if !mode_covered(f.mode) {
+        return HeaderReply::Refused {
+            number: 3,
+            place: 2,
+        };
+    }
+    if !from_1_to(16777216, f.variants) {
+        return HeaderReply::Refused {
+            number: 4,
+            place: 3,
+        };
+    }
+    if !from_1_to(65536, f.samples) {
+        return HeaderReply::Refused {
+            number: 4,
+            place: 7,
+        };
+    }
+    if !form_allowed(f.mode, f.form) {
+        return HeaderReply::Refused {
+            number: 5,
+            place: 11,
+        };
+    }
+    check_arrays(file, f)
+}

@@ -1,0 +1,61 @@
+-- `numbers::sum_3` meets its contract.
+-- Assumes nothing.
+use Prim.Native.Nat.{_-_}
+use native.Mathlib.Omega.{arith}
+use denote.Ref.{now}
+use Rattle.numbers.proofs.Sums.{Summing, starts, goes-on, finished}
+use Rattle.numbers.proofs.sum_3.Statement.{statement}
+use Rattle.numbers.proofs.sum_3.Tie as tie
+
+abbrev Inv-loop : tie.InvT-loop
+Inv-loop file at n total₀ i₀ total i = Summing file at n 3 16777215 i total
+
+abbrev μ-loop : tie.MeasureT-loop
+μ-loop file at n total₀ i₀ total i = n - i
+
+loop-holds : tie.Need-loop-holds Inv-loop μ-loop
+loop-holds c = let a = c .before .args in starts (now (a .file)) (a .at) (a .n) 3 16777215
+
+mul-number-3 : tie.Need-mul-number-3 Inv-loop μ-loop
+mul-number-3 c = omega arith
+
+add-number-3 : tie.Need-add-number-3 Inv-loop μ-loop
+add-number-3 c = omega arith
+
+number-3-requires : tie.Need-number-3-requires Inv-loop μ-loop
+number-3-requires c κs = omega arith
+
+cast-total : tie.Need-cast-total Inv-loop μ-loop
+cast-total c = omega arith
+
+add-total : tie.Need-add-total Inv-loop μ-loop
+add-total c = let w = c .before .before .loop in omega (arith, w .inv .small)
+
+add-i : tie.Need-add-i Inv-loop μ-loop
+add-i c = omega arith
+
+loop-less : tie.Need-loop-less Inv-loop μ-loop
+loop-less c = omega arith
+
+loop-again : tie.Need-loop-again Inv-loop μ-loop
+loop-again c = let a = c .before .before .before .before .args in let w = c .before .before .loop in goes-on (now (a .file)) (a .at) (a .n) 3 16777215 (w .i) (w .total) (c .number-3 .result) (omega arith) (c .number-3 .ensures .0) (c .number-3 .ensures .1) (w .inv)
+
+returns : tie.Need-returns Inv-loop μ-loop
+returns c = let a = c .before .before .before .args in let w = c .before .loop in finished (now (a .file)) (a .at) (a .n) 3 16777215 (w .i) (w .total) (omega arith) (omega arith) (w .inv)
+
+pub sum-3-spec : {M : Type 1} → statement M
+sum-3-spec =
+    tie.close
+    (tie.spec
+    Inv-loop
+    μ-loop
+    loop-holds
+    mul-number-3
+    add-number-3
+    number-3-requires
+    cast-total
+    add-total
+    add-i
+    loop-less
+    loop-again
+    returns)

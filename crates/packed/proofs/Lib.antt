@@ -1,0 +1,4 @@
+pub mod StoreLaws
+pub mod ReadsAt
+pub mod PutLaws
+pub mod CheckLaws

@@ -1,0 +1,49 @@
+-- `packed::check` meets its contract.
+-- Assumes nothing.
+use native.Mathlib.Omega.{arith}
+use Rattle.packed.proofs.CheckLaws.{check-short, check-unused, check-fits, size-of-unused}
+use Rattle.packed.specs.Arrays.{bits-of}
+use borrow.Author.Needs.{needs}
+use Rattle.packed.proofs.check.Statement.{statement}
+use Rattle.packed.proofs.check.Tie as tie
+
+size-of-requires : tie.Need-size-of-requires
+size-of-requires c κs = search needs
+
+sub-if1 : tie.Need-sub-if1
+sub-if1 c = search needs
+
+returns : tie.Need-returns
+returns c = check-short (bits-of (c .before .before .before .args .width)) (c .before .before .before .args .s .now) (c .before .before .before .args .at) (c .before .before .before .args .n) (c .before .size-of .result) (c .before .size-of .ensures) (c .before .before .before .pre .0) (c .if1 .taken)
+
+unused-bits-requires : tie.Need-unused-bits-requires
+unused-bits-requires c κs = search needs
+
+add-t11 : tie.Need-add-t11
+add-t11 c = search needs
+
+sub-t12 : tie.Need-sub-t12
+sub-t12 c = omega (arith, size-of-unused (bits-of (c .before .before .before .before .before .args .width)) (c .before .before .before .before .before .args .s .now) (c .before .before .before .before .before .args .at) (c .before .before .before .before .before .args .n) (c .before .unused-bits .result) (c .before .unused-bits .ensures) (c .if2 .taken), c .before .before .before .size-of .ensures)
+
+returns-2 : tie.Need-returns-2
+returns-2 c = check-unused (bits-of (c .before .before .before .before .before .args .width)) (c .before .before .before .before .before .args .s .now) (c .before .before .before .before .before .args .at) (c .before .before .before .before .before .args .n) (c .before .before .before .size-of .result) (c .before .before .before .size-of .ensures) (c .before .before .before .before .before .pre .0) (λ i. c .before .before .before .before .shared-slice-known .given i .fits) (c .before .before .if1 .left) (c .before .unused-bits .result) (c .before .unused-bits .ensures) (c .if2 .taken)
+
+add-t6 : tie.Need-add-t6
+add-t6 c = search needs
+
+returns-3 : tie.Need-returns-3
+returns-3 c = check-fits (bits-of (c .before .before .before .before .before .args .width)) (c .before .before .before .before .before .args .s .now) (c .before .before .before .before .before .args .at) (c .before .before .before .before .before .args .n) (c .before .before .before .size-of .result) (c .before .before .before .size-of .ensures) (c .before .before .before .before .before .pre .0) (λ i. c .before .before .before .before .shared-slice-known .given i .fits) (c .before .before .if1 .left) (c .before .unused-bits .result) (c .before .unused-bits .ensures) (c .if2 .left)
+
+pub check-spec : {M : Type 1} → statement M
+check-spec =
+    tie.close
+    (tie.spec
+    size-of-requires
+    sub-if1
+    returns
+    unused-bits-requires
+    add-t11
+    sub-t12
+    returns-2
+    add-t6
+    returns-3)

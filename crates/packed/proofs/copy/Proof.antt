@@ -1,0 +1,56 @@
+-- `packed::copy` meets its contract.
+-- Assumes nothing.
+use native.Mathlib.Omega.{arith}
+use borrow.Author.Needs.{needs}
+use Rattle.packed.proofs.PutLaws.{copy-more}
+use lib.ListN.{length, length-set, take, drop}
+use mathlib.Core.List.{_++_}
+use Prim.Native.Nat.{_-_, _≤_}
+use mathlib.Core.Path.{_≡_}
+use Rattle.packed.proofs.copy.Statement.{statement}
+use Rattle.packed.proofs.copy.Tie as tie
+
+abbrev Inv-loop : tie.InvT-loop
+Inv-loop from n to₀ i₀ to i = (i ≤ n) × ((length to ≡ length to₀) × (to ≡ take i from ++ drop i to₀))
+
+abbrev μ-loop : tie.MeasureT-loop
+μ-loop from n to₀ i₀ to i = n - i
+
+loop-holds : tie.Need-loop-holds Inv-loop μ-loop
+loop-holds c = search needs
+
+shared-slice-read-to : tie.Need-shared-slice-read-to Inv-loop μ-loop
+shared-slice-read-to c = search needs
+
+slice-write-to : tie.Need-slice-write-to Inv-loop μ-loop
+slice-write-to c = search needs
+
+add-i : tie.Need-add-i Inv-loop μ-loop
+add-i c = search needs
+
+loop-less : tie.Need-loop-less Inv-loop μ-loop
+loop-less c = search needs
+
+loop-again : tie.Need-loop-again Inv-loop μ-loop
+loop-again c = (omega arith, (simp length-set (c .before .before .loop .inv .1 .0), copy-more (c .before .before .loop .i) (c .before .before .before .args .from .now) (c .before .before .before .args .to .now) (c .before .before .loop .to) (c .before .before .loop .inv .1 .1) (omega (arith, c .before .before .before .pre, c .before .loop-test .taken)) (omega (arith, c .before .before .before .pre, c .before .loop-test .taken))))
+
+same-length : tie.Need-same-length Inv-loop μ-loop
+same-length c = search needs
+
+returns : tie.Need-returns Inv-loop μ-loop
+returns c = let e : c .before .loop .i ≡ c .before .before .args .n = omega (arith, c .before .loop .inv .0, c .loop-test .left) in rw e at (c .before .loop .inv .1 .1)
+
+pub copy-spec : {M : Type 1} → statement M
+copy-spec =
+    tie.close
+    (tie.spec
+    Inv-loop
+    μ-loop
+    loop-holds
+    shared-slice-read-to
+    slice-write-to
+    add-i
+    loop-less
+    loop-again
+    same-length
+    returns)

@@ -1,0 +1,78 @@
+-- `packed::store_octets` meets its contract.
+-- Assumes nothing.
+use Rattle.packed.proofs.PutLaws.{none-stored}
+use native.Mathlib.Omega.{arith}
+use borrow.Author.Needs.{needs}
+use Rattle.packed.proofs.PutLaws.{octet-turn, rest-done}
+use Rattle.format.specs.Packed.{one}
+use Rattle.packed.specs.Arrays.{number-in, store}
+use lib.ListN.{length}
+use Prim.Native.Nat.{_-_, _*_, _≤_}
+use mathlib.Core.Path.{_≡_, refl, _∙_}
+use Rattle.packed.proofs.store_octets.Statement.{statement}
+use Rattle.packed.proofs.store_octets.Tie as tie
+
+abbrev Inv-loop : tie.InvT-loop
+Inv-loop s at full row₀ i₀ row i = (i ≤ full) × ((length row ≡ length row₀) × (store (number-in one s at) (8 * (full - i)) (8 * i) row ≡ store (number-in one s at) (8 * full) 0 row₀))
+
+abbrev μ-loop : tie.MeasureT-loop
+μ-loop s at full row₀ i₀ row i = full - i
+
+loop-holds : tie.Need-loop-holds Inv-loop μ-loop
+loop-holds c = (omega arith, (refl, none-stored (number-in one (c .before .before .args .s .now) (c .before .before .args .at)) 8 (c .before .before .args .full) (c .before .before .args .row .now)))
+
+add-b : tie.Need-add-b Inv-loop μ-loop
+add-b c = search needs
+
+shared-slice-read-b : tie.Need-shared-slice-read-b Inv-loop μ-loop
+shared-slice-read-b c = search needs
+
+mul-put-four : tie.Need-mul-put-four Inv-loop μ-loop
+mul-put-four c = search needs
+
+put-four-requires : tie.Need-put-four-requires Inv-loop μ-loop
+put-four-requires c κs = search needs
+
+mul-put-four-2 : tie.Need-mul-put-four-2 Inv-loop μ-loop
+mul-put-four-2 c = search needs
+
+add-put-four : tie.Need-add-put-four Inv-loop μ-loop
+add-put-four c = search needs
+
+put-four-requires-2 : tie.Need-put-four-requires-2 Inv-loop μ-loop
+put-four-requires-2 c κs = search needs
+
+add-i : tie.Need-add-i Inv-loop μ-loop
+add-i c = search needs
+
+loop-less : tie.Need-loop-less Inv-loop μ-loop
+loop-less c = search needs
+
+loop-again : tie.Need-loop-again Inv-loop μ-loop
+loop-again c = (omega arith, (c .before .before .put-four2 .kept .0 ∙ c .before .before .before .before .before .before .put-four .kept .0 ∙ c .before .before .before .before .before .before .before .before .before .before .loop .inv .1 .0, octet-turn (c .before .before .before .before .before .before .before .before .before .before .before .before .before .args .s .now) (c .before .before .before .before .before .before .before .before .before .before .before .before .before .args .at) (c .before .before .before .before .before .before .before .before .before .before .before .before .before .args .full) (c .before .before .before .before .before .before .before .before .before .before .loop .i) (c .before .before .before .before .before .before .before .before .before .before .loop .row) (c .before .before .before .before .before .before .put-four .last .0) (c .before .before .put-four2 .last .0) _ (c .before .before .before .before .before .before .before .before .before .loop-test .taken) (c .before .before .before .before .before .before .before .before .before .before .before .before .shared-slice-known .given _ .fits) (c .before .before .before .before .before .before .put-four .ensures) (c .before .before .put-four2 .ensures) (c .before .before .before .before .before .before .before .before .before .before .loop .inv .1 .1)))
+
+same-length : tie.Need-same-length Inv-loop μ-loop
+same-length c = search needs
+
+returns : tie.Need-returns Inv-loop μ-loop
+returns c = rest-done (number-in one (c .before .before .before .before .args .s .now) (c .before .before .before .before .args .at)) (8 * (c .before .before .before .before .args .full - c .before .loop .i)) (8 * c .before .loop .i) (c .before .loop .row) _ (omega (arith, c .loop-test .left)) (c .before .loop .inv .1 .1)
+
+pub store-octets-spec : {M : Type 1} → statement M
+store-octets-spec =
+    tie.close
+    (tie.spec
+    Inv-loop
+    μ-loop
+    loop-holds
+    add-b
+    shared-slice-read-b
+    mul-put-four
+    put-four-requires
+    mul-put-four-2
+    add-put-four
+    put-four-requires-2
+    add-i
+    loop-less
+    loop-again
+    same-length
+    returns)

@@ -1,0 +1,66 @@
+-- `packed::store_quads` meets its contract.
+-- Assumes nothing.
+use Rattle.packed.proofs.PutLaws.{none-stored}
+use native.Mathlib.Omega.{arith}
+use borrow.Author.Needs.{needs}
+use Rattle.packed.proofs.PutLaws.{quad-turn, rest-done}
+use Rattle.format.specs.Packed.{two}
+use Rattle.packed.specs.Arrays.{number-in, store}
+use lib.ListN.{length}
+use Prim.Native.Nat.{_-_, _*_, _≤_}
+use mathlib.Core.Path.{_≡_, refl, _∙_}
+use Rattle.packed.proofs.store_quads.Statement.{statement}
+use Rattle.packed.proofs.store_quads.Tie as tie
+
+abbrev Inv-loop : tie.InvT-loop
+Inv-loop s at full row₀ i₀ row i = (i ≤ full) × ((length row ≡ length row₀) × (store (number-in two s at) (4 * (full - i)) (4 * i) row ≡ store (number-in two s at) (4 * full) 0 row₀))
+
+abbrev μ-loop : tie.MeasureT-loop
+μ-loop s at full row₀ i₀ row i = full - i
+
+loop-holds : tie.Need-loop-holds Inv-loop μ-loop
+loop-holds c = (omega arith, (refl, none-stored (number-in two (c .before .before .args .s .now) (c .before .before .args .at)) 4 (c .before .before .args .full) (c .before .before .args .row .now)))
+
+add-b : tie.Need-add-b Inv-loop μ-loop
+add-b c = search needs
+
+shared-slice-read-b : tie.Need-shared-slice-read-b Inv-loop μ-loop
+shared-slice-read-b c = search needs
+
+mul-put-four : tie.Need-mul-put-four Inv-loop μ-loop
+mul-put-four c = search needs
+
+put-four-requires : tie.Need-put-four-requires Inv-loop μ-loop
+put-four-requires c κs = search needs
+
+add-i : tie.Need-add-i Inv-loop μ-loop
+add-i c = search needs
+
+loop-less : tie.Need-loop-less Inv-loop μ-loop
+loop-less c = search needs
+
+loop-again : tie.Need-loop-again Inv-loop μ-loop
+loop-again c = (omega arith, (c .before .before .put-four .kept .0 ∙ c .before .before .before .before .before .before .loop .inv .1 .0, quad-turn (c .before .before .before .before .before .before .before .before .before .args .s .now) (c .before .before .before .before .before .before .before .before .before .args .at) (c .before .before .before .before .before .before .before .before .before .args .full) (c .before .before .before .before .before .before .loop .i) (c .before .before .before .before .before .before .loop .row) (c .before .before .put-four .last .0) _ (c .before .before .before .before .before .loop-test .taken) (c .before .before .before .before .before .before .before .before .shared-slice-known .given _ .fits) (c .before .before .put-four .ensures) (c .before .before .before .before .before .before .loop .inv .1 .1)))
+
+same-length : tie.Need-same-length Inv-loop μ-loop
+same-length c = search needs
+
+returns : tie.Need-returns Inv-loop μ-loop
+returns c = rest-done (number-in two (c .before .before .before .before .args .s .now) (c .before .before .before .before .args .at)) (4 * (c .before .before .before .before .args .full - c .before .loop .i)) (4 * c .before .loop .i) (c .before .loop .row) _ (omega (arith, c .loop-test .left)) (c .before .loop .inv .1 .1)
+
+pub store-quads-spec : {M : Type 1} → statement M
+store-quads-spec =
+    tie.close
+    (tie.spec
+    Inv-loop
+    μ-loop
+    loop-holds
+    add-b
+    shared-slice-read-b
+    mul-put-four
+    put-four-requires
+    add-i
+    loop-less
+    loop-again
+    same-length
+    returns)

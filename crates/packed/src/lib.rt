@@ -1,0 +1,274 @@
+// Packed arrays and rows of categories: an array checked and unpacked, a row filled, copied, exchanged. Every slice `s` is the file cut where
+// the record ends, so that its length is the record's end.
+ghost use mathlib.Core.Path.{_≡_};
+ghost use Prim.Native.Nat.{suc, _+_, _-_, _*_, _/_, _≤_, _<_};
+ghost use mathlib.Core.Bool.{true};
+ghost use mathlib.Core.List.{_++_, map};
+ghost use lib.ListN.{length, set, take, drop, replicate};
+ghost use Rattle.format.specs.Category.{exchange, exchange-all};
+ghost use Rattle.format.specs.Packed.{one, two, more, packed-size};
+ghost use Rattle.packed.specs.Arrays.{bits-of, number-in, unused, tabulate, store};
+ghost use Rattle.packed.specs.Unpacked.{array-at, out, unpacked-two, unpacked-one, of-pair};
+
+// How many bits a number of an array has.
+pub enum Width {
+    One,
+    Two,
+}
+
+// The place after an array, or a refusal.
+pub enum PackedStep {
+    Next(usize),
+    Refused { number: u8, place: usize },
+}
+
+// How many bytes hold n numbers.
+pub fn size_of(width: Width, n: usize) -> usize
+    requires { ⌜ n ≤ 65536 ⌝ }
+    ensures { λ r. ⌜ r ≡ packed-size (bits-of width) n ⌝ }
+{
+    match width {
+        Width::One => (n + 7) / 8,
+        Width::Two => (n + 3) / 4,
+    }
+}
+
+// Number k of the two-bit array that starts at `at`.
+pub fn two_bits(s: &[u8], at: usize, k: usize) -> u8
+    requires { ⌜ at + k / 4 < length (now s) ⌝ }
+    ensures { λ r. ⌜ r ≡ number-in two (now (s .entry)) at k ⌝ }
+{
+    let b = s[at + k / 4];
+    (b >> (2 * (k % 4))) & 3
+}
+
+// Number k of the one-bit array that starts at `at`.
+fn one_bit(s: &[u8], at: usize, k: usize) -> u8
+    requires { ⌜ at + k / 8 < length (now s) ⌝ }
+    ensures { λ r. ⌜ r ≡ number-in one (now (s .entry)) at k ⌝ }
+{
+    let b = s[at + k / 8];
+    (b >> (k % 8)) & 1
+}
+
+// Number k of an array.
+fn number_at(s: &[u8], at: usize, k: usize, width: Width) -> u8
+    requires { ⌜ at + k / suc (more (bits-of width)) < length (now s) ⌝ }
+    ensures { λ r. ⌜ r ≡ number-in (bits-of width) (now (s .entry)) at k ⌝ }
+{
+    match width {
+        Width::One => one_bit(s, at, k),
+        Width::Two => two_bits(s, at, k),
+    }
+}
+
+// What is left of the last byte of n numbers.
+pub fn unused_bits(s: &[u8], at: usize, n: usize, width: Width) -> u8
+    requires { ⌜ (at + packed-size (bits-of width) n ≤ length (now s)) × (n ≤ 65536) ⌝ }
+    ensures { λ r. ⌜ r ≡ unused (bits-of width) (now (s .entry)) at n ⌝ }
+{
+    match width {
+        Width::One => {
+            if n % 8 == 0 {
+                return 0;
+            }
+            s[at + n / 8] >> (n % 8)
+        }
+        Width::Two => {
+            if n % 4 == 0 {
+                return 0;
+            }
+            s[at + n / 4] >> (2 * (n % 4))
+        }
+    }
+}
+
+// 01, Replies: "first that the part fits (12), then its rule": 18, "unused record bits set", at "that byte".
+fn check(s: &[u8], at: usize, n: usize, width: Width) -> PackedStep
+    requires { ⌜ (at ≤ length (now s)) × (n ≤ 65536) ⌝ }
+    ensures { λ r. ⌜ r ≡ array-at (bits-of width) n (now (s .entry)) at ⌝ }
+{
+    let size = size_of(width, n);
+    if size > s.len() - at {
+        return PackedStep::Refused {
+            number: 12,
+            place: s.len(),
+        };
+    }
+    if unused_bits(s, at, n, width) != 0 {
+        return PackedStep::Refused {
+            number: 18,
+            place: at + size - 1,
+        };
+    }
+    PackedStep::Next(at + size)
+}
+
+// Four bytes one after another, from one number: the compiler stores them at once.
+fn put_four(row: &mut [u8], at: usize, a: u8, b: u8, c: u8, d: u8)
+    requires { ⌜ at + 4 ≤ length (now row) ⌝ }
+    ensures { λ _. ⌜ now (row .exit) ≡ set (set (set (set (now (row .entry)) at a) (at + 1) b) (at + 2) c) (at + 3) d ⌝ }
+{
+    let x = (a as u32) + 256 * (b as u32) + 65536 * (c as u32) + 16777216 * (d as u32);
+    row[at] = (x % 256) as u8;
+    row[at + 1] = (x / 256 % 256) as u8;
+    row[at + 2] = (x / 65536 % 256) as u8;
+    row[at + 3] = (x / 16777216) as u8;
+}
+
+// The two-bit numbers of the first `full` bytes, a byte at a time.
+fn store_quads(s: &[u8], at: usize, full: usize, row: &mut [u8])
+    requires { ⌜ (at + full ≤ length (now s)) × (4 * full ≤ length (now row)) ⌝ }
+    ensures { λ _. ⌜ now (row .exit) ≡ store (number-in two (now (s .entry)) at) (4 * full) 0 (now (row .entry)) ⌝ }
+{
+    for i in 0..full {
+        let b = s[at + i];
+        put_four(row, 4 * i, b % 4, b / 4 % 4, b / 16 % 4, b / 64);
+    }
+}
+
+// Eight bits at a time.
+fn store_octets(s: &[u8], at: usize, full: usize, row: &mut [u8])
+    requires { ⌜ (at + full ≤ length (now s)) × (8 * full ≤ length (now row)) ⌝ }
+    ensures { λ _. ⌜ now (row .exit) ≡ store (number-in one (now (s .entry)) at) (8 * full) 0 (now (row .entry)) ⌝ }
+{
+    for i in 0..full {
+        let b = s[at + i];
+        put_four(row, 8 * i, b % 2, b / 2 % 2, b / 4 % 2, b / 8 % 2);
+        put_four(row, 8 * i + 4, b / 16 % 2, b / 32 % 2, b / 64 % 2, b / 128);
+    }
+}
+
+// The numbers of the last byte, which may be fewer.
+fn store_rest(s: &[u8], at: usize, from: usize, n: usize, width: Width, row: &mut [u8])
+    requires { ⌜ (from ≤ n) × (n ≤ length (now row)) ⌝ }
+    requires { ⌜ at + packed-size (bits-of width) n ≤ length (now s) ⌝ }
+    ensures { λ _. ⌜ now (row .exit) ≡ store (number-in (bits-of width) (now (s .entry)) at) (n - from) from (now (row .entry)) ⌝ }
+{
+    for k in from..n {
+        row[k] = number_at(s, at, k, width);
+    }
+}
+
+// n numbers into a row, as they are.
+fn store_numbers(s: &[u8], at: usize, n: usize, width: Width, row: &mut [u8])
+    requires { ⌜ (n ≤ length (now row)) × (at + packed-size (bits-of width) n ≤ length (now s)) ⌝ }
+    ensures { λ _. ⌜ now (row .exit) ≡ tabulate (number-in (bits-of width) (now (s .entry)) at) n 0 ++ drop n (now (row .entry)) ⌝ }
+{
+    match width {
+        Width::One => {
+            store_octets(s, at, n / 8, row);
+            store_rest(s, at, 8 * (n / 8), n, Width::One, row);
+        }
+        Width::Two => {
+            store_quads(s, at, n / 4, row);
+            store_rest(s, at, 4 * (n / 4), n, Width::Two, row);
+        }
+    }
+}
+
+// 01, Categories: "Packed: two bits per sample, lowest sample in the lowest bits." The array's categories into the row's first n bytes.
+pub fn unpack_categories(s: &[u8], at: usize, n: usize, row: &mut [u8]) -> PackedStep
+    requires { ⌜ (at ≤ length (now s)) × (n ≤ 65536) × (n ≤ length (now row)) ⌝ }
+    ensures { λ r. ⌜ out r (now (row .exit)) ≡ unpacked-two n (now (s .entry)) at (now (row .entry)) ⌝ }
+{
+    let checked = check(s, at, n, Width::Two);
+    match checked {
+        PackedStep::Refused { number, place } => PackedStep::Refused { number, place },
+        PackedStep::Next(end) => {
+            store_numbers(s, at, n, Width::Two, row);
+            PackedStep::Next(end)
+        }
+    }
+}
+
+// The category of a pair that a bit stands for.
+fn of_pair(bit: u8, lower: u8, higher: u8) -> u8
+    ensures { λ r. ⌜ r ≡ of-pair lower higher bit ⌝ }
+{
+    if bit == 0 { lower } else { higher }
+}
+
+// Bits, one to a byte, made the categories that they stand for.
+fn choose(row: &mut [u8], n: usize, lower: u8, higher: u8)
+    requires { ⌜ n ≤ length (now row) ⌝ }
+    ensures { λ _. ⌜ now (row .exit) ≡ map (of-pair lower higher) (take n (now (row .entry))) ++ drop n (now (row .entry)) ⌝ }
+{
+    for i in 0..n {
+        row[i] = of_pair(row[i], lower, higher);
+    }
+}
+
+// 01, Categories and kinds: "a bit per sample (set: the higher category of the pair)".
+pub fn unpack_pair(
+    s: &[u8],
+    at: usize,
+    n: usize,
+    lower: u8,
+    higher: u8,
+    row: &mut [u8],
+) -> PackedStep
+    requires { ⌜ (at ≤ length (now s)) × (n ≤ 65536) × (n ≤ length (now row)) ⌝ }
+    ensures { λ r. ⌜ out r (now (row .exit)) ≡ unpacked-one lower higher n (now (s .entry)) at (now (row .entry)) ⌝ }
+{
+    let checked = check(s, at, n, Width::One);
+    match checked {
+        PackedStep::Refused { number, place } => PackedStep::Refused { number, place },
+        PackedStep::Next(end) => {
+            store_numbers(s, at, n, Width::One, row);
+            choose(row, n, lower, higher);
+            PackedStep::Next(end)
+        }
+    }
+}
+
+// The first n samples in one category.
+pub fn fill(row: &mut [u8], n: usize, category: u8)
+    requires { ⌜ n ≤ length (now row) ⌝ }
+    ensures { λ _. ⌜ now (row .exit) ≡ replicate n category ++ drop n (now (row .entry)) ⌝ }
+{
+    for i in 0..n {
+        row[i] = category;
+    }
+}
+
+// 01, Replies: "its first N bytes are zero and the rest unchanged".
+pub fn clear(row: &mut [u8], n: usize)
+    requires { ⌜ n ≤ length (now row) ⌝ }
+    ensures { λ _. ⌜ now (row .exit) ≡ replicate n 0 ++ drop n (now (row .entry)) ⌝ }
+{
+    fill(row, n, 0);
+}
+
+// The first n bytes of one row into another.
+pub fn copy(from: &[u8], n: usize, to: &mut [u8])
+    requires { ⌜ (n ≤ length (now from)) × (n ≤ length (now to)) ⌝ }
+    ensures { λ _. ⌜ now (to .exit) ≡ take n (now (from .entry)) ++ drop n (now (to .entry)) ⌝ }
+{
+    for i in 0..n {
+        to[i] = from[i];
+    }
+}
+
+// A category with 0 and 2 exchanged.
+fn exchanged(category: u8) -> u8
+    ensures { λ r. ⌜ r ≡ exchange category ⌝ }
+{
+    if category == 0 {
+        return 2;
+    }
+    if category == 2 {
+        return 0;
+    }
+    category
+}
+
+// 01, Categories and kinds: "0 and 2 exchanged for all samples".
+pub fn exchange_row(row: &mut [u8], n: usize)
+    requires { ⌜ n ≤ length (now row) ⌝ }
+    ensures { λ _. ⌜ now (row .exit) ≡ exchange-all true (take n (now (row .entry))) ++ drop n (now (row .entry)) ⌝ }
+{
+    for i in 0..n {
+        row[i] = exchanged(row[i]);
+    }
+}

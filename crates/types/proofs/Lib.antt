@@ -1,0 +1,4 @@
+pub mod Types
+pub mod Scanning
+pub mod Back
+pub mod Flat

@@ -1,0 +1,42 @@
+-- `types::type_at` meets its contract.
+-- Assumes nothing.
+use Rattle.types.proofs.Types.{half-inside, whole-inside, low-half, high-half, whole-byte}
+use denote.Ref.{now}
+use Prim.Native.Nat.{_+_, _/_}
+use native.Mathlib.Omega.{arith}
+use borrow.Author.Needs.{needs}
+use Rattle.types.proofs.type_at.Statement.{statement}
+use Rattle.types.proofs.type_at.Tie as tie
+
+add-byte : tie.Need-add-byte
+add-byte c = search needs
+
+shared-slice-read-byte : tie.Need-shared-slice-read-byte
+shared-slice-read-byte c = let a = c .before .before .args in half-inside (now (a .file)) (a .at) (a .i) (a .half) (c .before .if1 .taken) (c .before .before .pre)
+
+returns : tie.Need-returns
+returns c = let a = c .before .before .before .args in low-half (now (a .file)) (a .at) (a .i) (a .half) (c .before .before .if1 .taken) (c .if2 .taken)
+
+returns-2 : tie.Need-returns-2
+returns-2 c = let a = c .before .before .before .args in high-half (now (a .file)) (a .at) (a .i) (a .half) (c .before .before .if1 .taken) (c .if2 .left) (omega (arith, c .before .shared-slice-known .given (a .at + a .i / 2)))
+
+add-result : tie.Need-add-result
+add-result c = let a = c .before .args in omega (arith, whole-inside (now (a .file)) (a .at) (a .i) (a .half) (c .if1 .left) (c .before .pre))
+
+shared-slice-read-result : tie.Need-shared-slice-read-result
+shared-slice-read-result c = let a = c .before .before .args in whole-inside (now (a .file)) (a .at) (a .i) (a .half) (c .before .if1 .left) (c .before .before .pre)
+
+returns-3 : tie.Need-returns-3
+returns-3 c = let a = c .before .before .args in whole-byte (now (a .file)) (a .at) (a .i) (a .half) (c .before .if1 .left) (omega (arith, c .shared-slice-known2 .given (a .at + a .i)))
+
+pub type-at-spec : {M : Type 1} → statement M
+type-at-spec =
+    tie.close
+    (tie.spec
+    add-byte
+    shared-slice-read-byte
+    returns
+    returns-2
+    add-result
+    shared-slice-read-result
+    returns-3)

@@ -1,0 +1,132 @@
+"""Compares the built programs with the independent program.
+
+    python3 compare.py                 the committed cases, the real files, the listing, fresh cases from a new seed
+    python3 compare.py --seed S        the same with the fresh cases of seed S, to run a failure again
+    python3 compare.py --minutes N     fresh cases for about N minutes, seed after seed
+
+Prints the seeds it used, and as its last line 'N passed, M failed'.
+"""
+
+import argparse
+import subprocess
+import sys
+import time
+from pathlib import Path
+
+import pgen_reference as reference
+from pgen_cases import READ, Case
+from probe_cases import all_cases, input_bytes, line_of, reply_to
+
+HERE = Path(__file__).resolve().parent
+ROOT = HERE.parent
+COMMITTED_SEED, COMMITTED_CASES = 1, 2500
+FRESH_CASES = 1500
+
+
+def run(name, data):
+    """What a built program writes for an input."""
+    done = subprocess.run([str(ROOT / "tools" / "run"), name], input=data, stdout=subprocess.PIPE, check=True)
+    return done.stdout
+
+
+def joined(cases):
+    """Cases as the probe's input and the lines it must print."""
+    data, lines = bytearray(), []
+    for case in cases:
+        data += input_bytes(case)
+        lines.append(line_of(*reply_to(case)))
+    return bytes(data), "".join(line + "\n" for line in lines).encode()
+
+
+def first_difference(got, want):
+    """The first line in which two texts differ, in words."""
+    for number, (a, b) in enumerate(zip(got.split(b"\n"), want.split(b"\n"))):
+        if a != b:
+            return f"line {number}: got {a[:200]!r}, want {b[:200]!r}"
+    return f"lengths differ: got {len(got)}, want {len(want)} bytes"
+
+
+class Tally:
+    """What passed and what failed."""
+
+    def __init__(self):
+        self.passed = self.failed = 0
+
+    def same(self, what, got, want, count=1):
+        """Counts a comparison of so many cases."""
+        if got == want:
+            self.passed += count
+        else:
+            self.failed += 1
+            print(f"FAILED: {what}: {first_difference(got, want)}")
+
+
+def committed(tally):
+    """The committed cases are what the generator makes (the gate itself runs them)."""
+    data, want = joined(all_cases(COMMITTED_SEED, COMMITTED_CASES))
+    folder = ROOT / "crates" / "probe"
+    tally.same("crates/probe/stdin", (folder / "stdin").read_bytes(), data)
+    tally.same("crates/probe/stdout", (folder / "stdout").read_bytes(), want)
+
+
+def real_files(tally):
+    """Files made by plink2 read as plink2 itself exported them."""
+    for path in sorted((HERE / "real").glob("*.pgen")):
+        file = path.read_bytes()
+        samples = reference.header_check(file)[4]
+        rows = path.with_suffix(".categories").read_text().split()
+        data = b"".join(input_bytes(Case(READ, v, 0, file, b"", samples, samples)) for v in range(len(rows)))
+        want = "".join(f"0 0 o {bytes(map(int, row)).hex()} w {bytes(samples).hex()}\n" for row in rows).encode()
+        tally.same(f"real/{path.name}", run("probe", data), want, len(rows))
+        tally.same(f"listing of real/{path.name}", run("pgenlist", file), reference.listing(file).encode())
+
+
+def listings(tally):
+    """The listing of file A, cut at every length, and of inputs of and above the limit."""
+    file = (ROOT / "examples" / "a.pgen").read_bytes()
+    inputs = [file[:n] for n in range(len(file) + 1)] + [bytes(65536), bytes(65537)]
+    for data in inputs:
+        tally.same(f"listing of {len(data)} bytes", run("pgenlist", data), reference.listing(data).encode())
+
+
+def fresh(tally, seed):
+    """Fresh cases."""
+    print(f"fresh cases, seed {seed}")
+    data, want = joined(all_cases(seed, FRESH_CASES))
+    tally.same(f"fresh cases of seed {seed}", run("probe", data), want, FRESH_CASES)
+
+
+def write_committed():
+    """Writes the cases that the gate runs."""
+    data, want = joined(all_cases(COMMITTED_SEED, COMMITTED_CASES))
+    (ROOT / "crates" / "probe" / "stdin").write_bytes(data)
+    (ROOT / "crates" / "probe" / "stdout").write_bytes(want)
+
+
+def main():
+    """Everything."""
+    parser = argparse.ArgumentParser()
+    parser.add_argument("--seed", type=int)
+    parser.add_argument("--minutes", type=float, default=1)
+    parser.add_argument("--write", action="store_true", help="write the committed cases anew")
+    words = parser.parse_args()
+    if words.write:
+        write_committed()
+        return 0
+    tally = Tally()
+    committed(tally)
+    real_files(tally)
+    listings(tally)
+    if words.seed is not None:
+        fresh(tally, words.seed)
+    else:
+        seed, end = time.time_ns() % 10**9, time.monotonic() + 60 * words.minutes
+        while time.monotonic() < end:
+            fresh(tally, seed)
+            seed += 1
+    print(f"{tally.passed} passed, {tally.failed} failed")
+    return 1 if tally.failed else 0
+
+
+if __name__ == "__main__":
+    sys.exit(main())
