@@ -36,7 +36,7 @@ module _ (K : ℕ) (l : Layout) (p : zero < K) (h : LayoutObeys K l) where
   record-at v lent = read-body (record-start K l (file-variant (suc v))) (l .samples) lent (type-of l (file-variant v)) (getD (l .bodies) v [])
 
   -- a body that was read of variant v has its type
-  kept-type : (v : ℕ) (lent : List ℕ) (body : Body) (left : List ℕ) → Bytes (getD (l .bodies) v []) → record-at v lent ≡ ok body left
+  pub kept-type : (v : ℕ) (lent : List ℕ) (body : Body) (left : List ℕ) → Bytes (getD (l .bodies) v []) → record-at v lent ≡ ok body left
       → (body-type body ≡ type-of l (file-variant v)) × (left ≡ [])
   kept-type v lent body left y e =
       let w : IsBody (l .samples) lent (type-of l (file-variant v)) (getD (l .bodies) v []) body left
@@ -45,7 +45,7 @@ module _ (K : ℕ) (l : Layout) (p : zero < K) (h : LayoutObeys K l) where
       (w .kind, w .ended)
 
   -- over nothing or over `lent`, a record that stands is read alike
-  stands-alike : (v : ℕ) (lent : List ℕ) → Bytes (getD (l .bodies) v []) → leans (type-of l (file-variant v)) ≡ false
+  pub stands-alike : (v : ℕ) (lent : List ℕ) → Bytes (getD (l .bodies) v []) → leans (type-of l (file-variant v)) ≡ false
       → read-over K l [] (file-variant v) ≡ map-out (body-categories (l .samples) lent) (record-at v lent)
   unfolding read-over
   stands-alike v lent y s =

@@ -1,16 +1,22 @@
 -- One turn of a loop over the records of a file, in variant order, as code takes it by index.
 -- Assumes nothing.
-use mathlib.Core.Path.{_≡_, refl, sym, ap, ap₂, _∙_}
-use Prim.Native.Nat.{ℕ, suc, _<_}
-use mathlib.Core.List.{List, [], _∷_}
-use lib.ListN.{length, getD, drop}
-use lib.Seq.{drop-cons, drop-length}
+use mathlib.Core.Path.{_≡_, refl, sym, ap, ap₂, _∙_, subst}
+use mathlib.Core.Bool.{Bool, true, false}
+use Prim.Native.Nat.{ℕ, zero, suc, _+_, _<_}
+use mathlib.Core.List.{List, [], _∷_, _++_}
+use lib.ListN.{length, getD, take, drop}
+use lib.Seq.{drop-cons, drop-length, take-at, drop-at}
 use native.Mathlib.Omega.{arith}
-use Rattle.format.specs.Base.{Out, ok, refuse, bind, map-out}
-use Rattle.format.specs.Body.{Body, read-body, body-categories}
+use Rattle.format.specs.Base.{pick, Bytes, Out, ok, refuse, bind, map-out}
+use Rattle.format.specs.Body.{Body, body-type, read-body, body-categories}
+use Rattle.format.specs.Track.{leans}
 use Rattle.format.specs.Variant.{file-variant}
 use Rattle.format.specs.Layout.{sum, header-end, Layout, fixed-of, record-start, LayoutObeys}
 use Rattle.format.specs.File.{next-anchor, read-records, read-all, type-of}
+use Rattle.format.proofs.Rules.{never-both, Holds}
+use Rattle.format.proofs.BodyLaws.{IsBody, body-as-written}
+use Rattle.format.proofs.RowLaws.{body-row, anchor-unused, row-anchor-unused}
+use Rattle.format.proofs.InOrderLaws.{kept-type}
 use Rattle.format.proofs.StartLaws.{record-end}
 use Rattle.format.proofs.FileLaws.{one-type-each}
 use native.Mathlib.Nat.{add-zero}
@@ -68,3 +74,53 @@ turn-check K l v lent h m =
         ≡ then-check K l v lent out
     go (ok x left) = outcome-map (_∷_ x) (read-records (l .samples) (record-start K l (file-variant (suc v))) (next-anchor (type-of l (file-variant v)) lent (body-categories (l .samples) lent x)) (drop (suc v) (l .types)) (drop (suc v) (l .bodies)))
     go (refuse number place) = refl
+
+-- ---- the row that a loop keeps
+
+module _ (K : ℕ) (l : Layout) (p : zero < K) (h : LayoutObeys K l) where
+  -- the first record leans on nothing, whatever the row holds
+  pub first-over-any : (lent : List ℕ) → Bytes (getD (l .bodies) 0 []) → zero < length (l .bodies) → leans (type-of l (file-variant 0)) ≡ false
+      → left-to-check K l 0 lent ≡ left-to-check K l 0 []
+  first-over-any lent y m s =
+      turn-check K l 0 lent h m
+      ∙ ap (then-check K l 0 lent) (anchor-unused (record-start K l (file-variant 1)) (l .samples) lent [] (type-of l (file-variant 0)) (getD (l .bodies) 0 []) s)
+      ∙ go (record-over K l 0 []) refl
+      ∙ sym (turn-check K l 0 [] h m)
+    where
+      go : (out : Out Body) → record-over K l 0 [] ≡ out → then-check K l 0 lent out ≡ then-check K l 0 [] out
+      go (refuse number place) e = refl
+      go (ok body left) e =
+          let stands : leans (body-type body) ≡ false = ap leans (kept-type K l p h 0 [] body left y e .0) ∙ s in
+          ap (left-to-check K l 1)
+          (ap (λ (b : Bool). pick b lent (body-categories (l .samples) lent body)) s
+          ∙ row-anchor-unused (l .samples) lent [] body stands
+          ∙ sym (ap (λ (b : Bool). pick b [] (body-categories (l .samples) [] body)) s))
+
+  -- a record that stands has N categories
+  row-count : (v : ℕ) (lent : List ℕ) (body : Body) (left : List ℕ) → Bytes (getD (l .bodies) v []) → record-over K l v lent ≡ ok body left
+      → leans (type-of l (file-variant v)) ≡ false → length (body-categories (l .samples) lent body) ≡ l .samples
+  row-count v lent body left y e s =
+      let w : IsBody (l .samples) lent (type-of l (file-variant v)) (getD (l .bodies) v []) body left
+      = subst (Holds (IsBody (l .samples) lent (type-of l (file-variant v)) (getD (l .bodies) v []))) e
+      (body-as-written (record-start K l (file-variant (suc v))) (l .samples) lent (type-of l (file-variant v)) (getD (l .bodies) v []) y) in
+      body-row (l .samples) lent body (w .fits) (λ t. never-both t (ap leans (w .kind) ∙ s)) .0
+
+  -- a record's categories at the front of a row, unless it leans: then the row stays
+  abbrev pub row-after : ℕ → List ℕ → Body → List ℕ
+  row-after v row body = pick (leans (type-of l (file-variant v))) row (body-categories (l .samples) (take (l .samples) row) body ++ drop (l .samples) row)
+
+  -- so the row's front is what the next record leans on, and what stands behind stays
+  pub row-carried : (v : ℕ) (row : List ℕ) (body : Body) (left : List ℕ) → Bytes (getD (l .bodies) v []) → record-over K l v (take (l .samples) row) ≡ ok body left
+      → (take (l .samples) (row-after v row body) ≡ next-anchor (type-of l (file-variant v)) (take (l .samples) row) (body-categories (l .samples) (take (l .samples) row) body))
+      × (drop (l .samples) (row-after v row body) ≡ drop (l .samples) row)
+  row-carried v row body left y e = go (leans (type-of l (file-variant v))) (row-count v (take (l .samples) row) body left y e)
+    where
+      go : (b : Bool) → (b ≡ false → length (body-categories (l .samples) (take (l .samples) row) body) ≡ l .samples)
+          → (take (l .samples) (pick b row (body-categories (l .samples) (take (l .samples) row) body ++ drop (l .samples) row))
+          ≡ pick b (take (l .samples) row) (body-categories (l .samples) (take (l .samples) row) body))
+          × (drop (l .samples) (pick b row (body-categories (l .samples) (take (l .samples) row) body ++ drop (l .samples) row)) ≡ drop (l .samples) row)
+      go true n = (refl, refl)
+      go false n = (
+        take-at (body-categories (l .samples) (take (l .samples) row) body) (drop (l .samples) row) (l .samples) (n refl),
+        drop-at (body-categories (l .samples) (take (l .samples) row) body) (drop (l .samples) row) (l .samples) (n refl),
+      )

@@ -1,0 +1,138 @@
+-- The kinds by their numbers, and the whole record: "Lastly 13".
+-- Assumes nothing.
+use mathlib.Core.Path.{_≡_, refl, sym, ap, _∙_}
+use Prim.Native.Nat.{ℕ, zero, suc, _+_, _-_, _≤_, _<_}
+use native.Mathlib.Omega.{arith}
+use mathlib.Core.Bool.{Bool, true, false, _&&_}
+use mathlib.Core.List.{List, [], _∷_, _++_, map}
+use lib.ListN.{getD, length, take, drop, replicate, length-map, length-replicate, length-append, length-drop}
+use lib.Seq.{length-take-le}
+use lib.Dec.{eqb}
+use Rattle.format.specs.Base.{pick, Out, ok, refuse, bind, map-out}
+use Rattle.format.specs.PairCode.{category-of}
+use Rattle.format.specs.Track.{Kind, array, paired, against-anchor, against-category, kind, leans, Track, plain, one-bit, leaning, sparse, Fits, track-bytes, apply, read-kind, track-categories}
+use Rattle.format.specs.Body.{Body, ended, read-body}
+use Rattle.format.proofs.Rules.{Holds, below-drop}
+use Rattle.format.proofs.CategoryLaws.{exchange-all-length}
+use Rattle.format.proofs.RowLaws.{apply-length}
+use Rattle.format.proofs.TrackLaws.{IsTrack, track-as-written}
+use Rattle.cursor.specs.declared.Cursor.{Cursor}
+use Rattle.cursor.proofs.ByteLaws.{bytes-of}
+use Rattle.difflist.specs.Entries.{Outcome, out}
+use Rattle.difflist.specs.declared.ListStep.{ListStep}
+use Rattle.difflist.specs.declared.ListStep.the-variants.{Listed, Refused}
+use Rattle.record.specs.declared.RecordReply.the-variants.{Accepted, Refused as NotAccepted}
+use Rattle.record.specs.Rows.{wiped, stored, kind-categories}
+use Rattle.record.specs.Recorded.{done, replied, recorded}
+use Rattle.record.proofs.RowLaws.{rest-of}
+
+-- ---- kinds by number
+
+leaning-kind : (number : ℕ) → (number ≡ 0 → ⊥) → (number ≡ 1 → ⊥) → number < 4 → kind number ≡ against-anchor (eqb number 3)
+leaning-kind zero p q h = absurd (p refl)
+leaning-kind (suc zero) p q h = absurd (q refl)
+leaning-kind (suc (suc zero)) p q h = refl
+leaning-kind (suc (suc (suc zero))) p q h = refl
+leaning-kind (suc (suc (suc (suc number)))) p q h = absurd (omega arith)
+
+sparse-kind : (number : ℕ) → 4 ≤ number → number < 8 → (number ≡ 5 → ⊥) → kind number ≡ against-category (number - 4)
+sparse-kind zero g h q = absurd (omega arith)
+sparse-kind (suc zero) g h q = absurd (omega arith)
+sparse-kind (suc (suc zero)) g h q = absurd (omega arith)
+sparse-kind (suc (suc (suc zero))) g h q = absurd (omega arith)
+sparse-kind (suc (suc (suc (suc zero)))) g h q = refl
+sparse-kind (suc (suc (suc (suc (suc zero))))) g h q = absurd (q refl)
+sparse-kind (suc (suc (suc (suc (suc (suc zero)))))) g h q = refl
+sparse-kind (suc (suc (suc (suc (suc (suc (suc zero))))))) g h q = refl
+sparse-kind (suc (suc (suc (suc (suc (suc (suc (suc number)))))))) g h q = absurd (omega arith)
+
+module _ (l : List ℕ) (start n number : ℕ) (keep : Bool) (row : List ℕ) (o : Outcome) where
+  abbrev Of : Bool → Kind → Type 0
+  Of kept k = o ≡ stored kept (length l) n row (kind-categories n row k l start)
+
+  pub of-array : number ≡ 0 → Of false array → Of (leans number && keep) (kind number)
+  of-array e g = rw e g
+
+  pub of-paired : number ≡ 1 → Of false paired → Of (leans number && keep) (kind number)
+  of-paired e g = rw e g
+
+  pub of-leaning : (number ≡ 0 → ⊥) → (number ≡ 1 → ⊥) → number < 4 → Of keep (against-anchor (eqb number 3)) → Of (leans number && keep) (kind number)
+  of-leaning p q h g = rw (leaning-kind number p q h) g
+
+  pub of-sparse : 4 ≤ number → number < 8 → (number ≡ 5 → ⊥) → Of false (against-category (number - 4)) → Of (leans number && keep) (kind number)
+  of-sparse a h q g = rw (sparse-kind number a h q) g
+
+-- ---- the whole record
+
+categories-length : (n : ℕ) (anchor : List ℕ) (t : Track) → length anchor ≡ n → Fits n anchor t → length (track-categories n anchor t) ≡ n
+categories-length n anchor (plain categories) e f = f .0
+categories-length n anchor (one-bit c bits es) e f = apply-length es (map (category-of c) bits) ∙ length-map bits (category-of c) ∙ f .0
+categories-length n anchor (leaning inverted es) e f = exchange-all-length inverted (apply es anchor) ∙ apply-length es anchor ∙ e
+categories-length n anchor (sparse category es) e f = apply-length es (replicate n category) ∙ length-replicate n category
+
+rest-kept : (kept : Bool) (n : ℕ) (first row : List ℕ) → length first ≡ n → drop n (pick kept row (first ++ drop n row)) ≡ drop n row
+rest-kept true n first row e = refl
+rest-kept false n first row e = rest-of n first row e
+
+module _ (l : List ℕ) (start n number : ℕ) (keep : Bool) (row : List ℕ) (y : (i : ℕ) → getD l i 0 < 256) (a : start ≤ length l) (h : n ≤ length row)
+    (r : ListStep) (new : List ℕ)
+    (told : wiped n (out r new) ≡ stored (leans number && keep) (length l) n row (kind-categories n row (kind number) l start)) where
+  abbrev kept : Bool
+  kept = leans number && keep
+
+  abbrev read : Out Track
+  read = read-kind (length l) n (take n row) (kind number) (drop start l)
+
+  abbrev whole : Out Track → Out Body
+  whole m = bind m (λ track left. ended (length l) (record { main = track }) left)
+
+  was-read : Holds (IsTrack n (take n row) number (drop start l)) read
+  was-read = track-as-written (length l) n (take n row) number (drop start l) (below-drop 256 start l (bytes-of l y))
+
+  was-told : wiped n (out r new) ≡ stored kept (length l) n row (map-out (track-categories n (take n row)) read)
+  unfolding kind-categories
+  was-told = told
+
+  pub track-refused : (refusal place : ℕ) (last : List ℕ) → r ≡ Refused refusal place → last ≡ replicate n 0 ++ drop n new
+      → done (NotAccepted refusal place) last ≡ recorded keep n number l start row
+  unfolding recorded read-body
+  track-refused refusal place last q g = through read (rw q at was-told)
+    where
+      through : (m : Out Track) → out (Refused refusal place) (replicate n 0 ++ drop n new) ≡ stored kept (length l) n row (map-out (track-categories n (take n row)) m)
+          → done (NotAccepted refusal place) last ≡ replied kept n row (whole m)
+      through (ok track left) p = absurd (let z : _≡_ {A = ℕ} 0 1 = cc in omega arith)
+      through (refuse refusal′ place′) p = cc
+
+  -- what is left is no longer than the record
+  left-within : (track : Track) (left : List ℕ) → drop start l ≡ track-bytes n track ++ left → length left ≤ length l
+  left-within track left e = omega (arith, ap length e, length-append (track-bytes n track) left, length-drop start l)
+
+  pub track-ended : (c : Cursor) → r ≡ Listed c → length l ≤ c .at → done Accepted new ≡ recorded keep n number l start row
+  unfolding recorded read-body
+  track-ended c q e = through read (rw q at was-told) was-read
+    where
+      through : (m : Out Track) → out (Listed c) new ≡ stored kept (length l) n row (map-out (track-categories n (take n row)) m)
+          → Holds (IsTrack n (take n row) number (drop start l)) m → done Accepted new ≡ replied kept n row (whole m)
+      through (refuse refusal place) p w = absurd (let z : _≡_ {A = ℕ} 0 1 = cc in omega arith)
+      through (ok track []) p w = cc
+      through (ok track (b ∷ left)) p w =
+          let f : c .at ≡ length l - suc (length left) = cc in
+          absurd (omega (arith, left-within track (b ∷ left) (w .written)))
+
+  pub track-left : (c : Cursor) (last : List ℕ) → r ≡ Listed c → c .at < length l → last ≡ replicate n 0 ++ drop n new
+      → done (NotAccepted 13 (c .at)) last ≡ recorded keep n number l start row
+  unfolding recorded read-body
+  track-left c last q e g = through read (rw q at was-told) was-read
+    where
+      through : (m : Out Track) → out (Listed c) new ≡ stored kept (length l) n row (map-out (track-categories n (take n row)) m)
+          → Holds (IsTrack n (take n row) number (drop start l)) m → done (NotAccepted 13 (c .at)) last ≡ replied kept n row (whole m)
+      through (refuse refusal place) p w = absurd (let z : _≡_ {A = ℕ} 0 1 = cc in omega arith)
+      through (ok track []) p w =
+          let f : c .at ≡ length l - 0 = cc in
+          absurd (omega arith)
+      through (ok track (b ∷ left)) p w =
+          let f : c .at ≡ length l - suc (length left) = cc in
+          let s : new ≡ pick kept row (track-categories n (take n row) track ++ drop n row) = cc in
+          let d : drop n new ≡ drop n row
+          = rw s (rest-kept kept n (track-categories n (take n row) track) row (categories-length n (take n row) track (length-take-le n row h) (w .fits))) in
+          cc

@@ -1,0 +1,5 @@
+pub mod RuleLaws
+pub mod RowLaws
+pub mod ListLaws
+pub mod PairLaws
+pub mod BodyLaws

@@ -1,0 +1,133 @@
+-- What each way out of the functions of the code says, from what they were told.
+-- Assumes nothing.
+use mathlib.Core.Path.{_≡_, refl, sym, ap, _∙_}
+use Prim.Native.Nat.{ℕ, zero, suc, _+_, _-_, _≤_, _<_}
+use native.Mathlib.Omega.{arith}
+use mathlib.Core.Bool.{Bool, true, false, not, _&&_}
+use mathlib.Core.List.{List, [], _∷_, _++_, map}
+use lib.ListN.{getD, length, take, drop, replicate, length-replicate, take-append-drop}
+use lib.Seq.{take-at, drop-at, length-take-le}
+use Rattle.format.specs.Base.{pick, Out, ok, refuse, bind, map-out}
+use Rattle.format.specs.Category.{exchange-all}
+use Rattle.format.specs.Packed.{two, read-packed}
+use Rattle.format.specs.Difflist.{Entry, number-width, read-list}
+use Rattle.format.specs.Track.{array, against-anchor, against-category, plain, leaning, sparse, rule, off-anchor, off-category, apply, read-listed, read-kind, track-categories}
+use Rattle.format.proofs.CategoryLaws.{exchange-all-none}
+use Rattle.format.proofs.RowLaws.{apply-length}
+use Rattle.packed.specs.Unpacked.{unpacked, unpacked-two, out as unpack}
+use Rattle.packed.specs.declared.PackedStep.the-variants.{Next, Refused as NotPacked}
+use Rattle.difflist.specs.Entries.{Outcome, out}
+use Rattle.difflist.specs.Listed.{replied, listed}
+use Rattle.difflist.specs.declared.ListStep.{ListStep}
+use Rattle.difflist.specs.declared.ListStep.the-variants.{Listed, Refused}
+use Rattle.difflist.specs.declared.ListRule.the-variants.{OffRow}
+use Rattle.cursor.specs.declared.Cursor.{Cursor}
+use Rattle.record.specs.Rows.{wiped, stored, kind-categories}
+
+-- a row whose first part is replaced by as many bytes keeps the rest
+pub rest-of : (n : ℕ) (first row : List ℕ) → length first ≡ n → drop n (first ++ drop n row) ≡ drop n row
+rest-of n first row e = drop-at first (drop n row) n e
+
+pub zero-rest : (n : ℕ) (row : List ℕ) → drop n (replicate n 0 ++ drop n row) ≡ drop n row
+zero-rest n row = rest-of n (replicate n 0) row (length-replicate n 0)
+
+-- ---- kind 0
+
+module _ (l : List ℕ) (start n : ℕ) (row new : List ℕ) where
+  array-through : (m : Out (List ℕ)) → map-out (track-categories n (take n row)) (map-out plain m) ≡ m
+  array-through (ok vs left) = refl
+  array-through (refuse number place) = refl
+
+  array-is : kind-categories n row array l start ≡ read-packed (length l) two n (drop start l)
+  unfolding kind-categories read-kind
+  array-is = array-through (read-packed (length l) two n (drop start l))
+
+  pub array-next : (at : ℕ) → unpack (Next at) new ≡ unpacked-two n l start row
+      → out (Listed (record { at = at })) new ≡ stored false (length l) n row (kind-categories n row array l start)
+  unfolding unpacked-two
+  array-next at e = rw array-is (through (read-packed (length l) two n (drop start l)) e)
+    where
+      through : (m : Out (List ℕ)) → unpack (Next at) new ≡ unpacked (length l) (λ vs. vs) n row m → out (Listed (record { at = at })) new ≡ stored false (length l) n row m
+      through (ok vs left) q = cc
+      through (refuse number place) q = absurd (let z : _≡_ {A = ℕ} 0 1 = cc in omega arith)
+
+  pub array-refused : (number place : ℕ) → unpack (NotPacked number place) new ≡ unpacked-two n l start row
+      → out (Refused number place) (replicate n 0 ++ drop n new) ≡ stored false (length l) n row (kind-categories n row array l start)
+  unfolding unpacked-two
+  array-refused number place e = rw array-is (through (read-packed (length l) two n (drop start l)) e)
+    where
+      through : (m : Out (List ℕ)) → unpack (NotPacked number place) new ≡ unpacked (length l) (λ vs. vs) n row m
+          → out (Refused number place) (replicate n 0 ++ drop n new) ≡ stored false (length l) n row m
+      through (ok vs left) q = absurd (let z : _≡_ {A = ℕ} 0 1 = cc in omega arith)
+      through (refuse number′ place′) q = cc
+
+-- ---- kinds 2 and 3
+
+module _ (l : List ℕ) (start n : ℕ) (inverted keep : Bool) (row : List ℕ) (h : n ≤ length row) (r : ListStep) (mid : List ℕ)
+    (told : out r mid ≡ listed (not keep) OffRow n l start row) where
+  abbrev read : Out (List Entry)
+  read = read-list (rule n (off-anchor (take n row))) (number-width n) (length l) (drop start l)
+
+  abbrev categories : List Entry → List ℕ
+  categories es = exchange-all inverted (apply es (take n row))
+
+  leaning-through : (m : Out (List Entry)) → map-out (track-categories n (take n row)) (map-out (leaning inverted) m) ≡ map-out categories m
+  leaning-through (ok es left) = refl
+  leaning-through (refuse number place) = refl
+
+  leaning-is : kind-categories n row (against-anchor inverted) l start ≡ map-out categories read
+  unfolding kind-categories read-kind read-listed
+  leaning-is = leaning-through read
+
+  applied-length : (es : List Entry) → length (apply es (take n row)) ≡ n
+  applied-length es = apply-length es (take n row) ∙ length-take-le n row h
+
+  abbrev Told : Out (List Entry) → Type 0
+  Told m = out r mid ≡ replied (not keep) (length l) n row m
+
+  was-told : Told read
+  unfolding listed
+  was-told = told
+
+  pub leaning-refused : (number place : ℕ) → r ≡ Refused number place
+      → out (Refused number place) (replicate n 0 ++ drop n mid) ≡ stored keep (length l) n row (kind-categories n row (against-anchor inverted) l start)
+  leaning-refused number place q = rw leaning-is (through keep read was-told)
+    where
+      through : (k : Bool) (m : Out (List Entry)) → out r mid ≡ replied (not k) (length l) n row m
+          → out (Refused number place) (replicate n 0 ++ drop n mid) ≡ stored k (length l) n row (map-out categories m)
+      through k (ok es left) p = absurd (let z : _≡_ {A = ℕ} 0 1 = cc in omega arith)
+      through true (refuse number′ place′) p = cc
+      through false (refuse number′ place′) p =
+          let e : mid ≡ replicate n 0 ++ drop n row = cc in
+          let f : drop n mid ≡ drop n row = rw e (zero-rest n row) in
+          cc
+
+  pub leaning-kept : (c : Cursor) → r ≡ Listed c → keep ≡ true
+      → out (Listed c) mid ≡ stored keep (length l) n row (kind-categories n row (against-anchor inverted) l start)
+  leaning-kept c q k = rw leaning-is (through keep k read was-told)
+    where
+      through : (t : Bool) → t ≡ true → (m : Out (List Entry)) → out r mid ≡ replied (not t) (length l) n row m
+          → out (Listed c) mid ≡ stored t (length l) n row (map-out categories m)
+      through true e (ok es left) p = cc
+      through true e (refuse number place) p = absurd (let z : _≡_ {A = ℕ} 0 1 = cc in omega arith)
+      through false e m p = let z : _≡_ {A = ℕ} 0 1 = cc in absurd (omega arith)
+
+  -- the row that the list was put into, exchanged if the kind is inverted
+  pub leaning-stored : (c : Cursor) (new : List ℕ) → r ≡ Listed c → keep ≡ false → new ≡ exchange-all inverted (take n mid) ++ drop n mid
+      → out (Listed c) new ≡ stored keep (length l) n row (kind-categories n row (against-anchor inverted) l start)
+  leaning-stored c new q k g = rw (leaning-is, k) (through read (rw k at was-told))
+    where
+      through : (m : Out (List Entry)) → out r mid ≡ replied true (length l) n row m → out (Listed c) new ≡ stored false (length l) n row (map-out categories m)
+      through (refuse number place) p = absurd (let z : _≡_ {A = ℕ} 0 1 = cc in omega arith)
+      through (ok es left) p =
+          let e : mid ≡ apply es (take n row) ++ drop n row = cc in
+          let t : take n mid ≡ apply es (take n row) = rw e (take-at (apply es (take n row)) (drop n row) n (applied-length es)) in
+          let d : drop n mid ≡ drop n row = rw e (rest-of n (apply es (take n row)) row (applied-length es)) in
+          let f : new ≡ exchange-all inverted (apply es (take n row)) ++ drop n row = rw (t, d) at g in
+          cc
+
+  pub not-inverted : inverted ≡ false → mid ≡ exchange-all inverted (take n mid) ++ drop n mid
+  not-inverted e = rw (e, exchange-all-none (take n mid)) (sym (take-append-drop n mid))
+
+  pub is-inverted : inverted ≡ true → (new : List ℕ) → new ≡ exchange-all true (take n mid) ++ drop n mid → new ≡ exchange-all inverted (take n mid) ++ drop n mid
+  is-inverted e new g = rw e g

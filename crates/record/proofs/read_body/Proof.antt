@@ -1,0 +1,68 @@
+use Rattle.record.proofs.BodyLaws.{track-refused, track-ended, track-left}
+use borrow.Author.Needs.{needs}
+use Rattle.record.proofs.read_body.Statement.{statement}
+use Rattle.record.proofs.read_body.Tie as tie
+use Rattle.record.proofs.read_body.Reads as reads
+use Rattle.record.proofs.read_body.Lts as lts
+use Rattle.packed.proofs.clear.Reads as clear-reads
+use Rattle.record.proofs.read_track.Reads as read-track-reads
+
+-- src/lib.rt:131:9
+read-track-requires : tie.Need-read-track-requires
+read-track-requires c κs = search needs
+
+-- src/lib.rt:133:29
+enum-known-got : tie.Need-enum-known-got
+enum-known-got c = search needs
+
+-- src/lib.rt:134:13
+clear-requires : tie.Need-clear-requires
+clear-requires c κs = search needs
+
+-- src/lib.rt:137:26
+enum-known-got-2 : tie.Need-enum-known-got-2
+enum-known-got-2 c = search needs
+
+-- src/lib.rt:140:17
+clear-requires-2 : tie.Need-clear-requires-2
+clear-requires-2 c κs = search needs
+
+-- src/lib.rt:141:17
+same-length : tie.Need-same-length
+same-length c = search needs
+
+-- src/lib.rt:141:17
+returns : tie.Need-returns
+returns c = track-left (c .before .before .before .before .before .before .before .before .before .before .before .before .before .before .args .s .now) (c .before .before .before .before .before .before .before .before .before .before .before .before .before .before .args .start) (c .before .before .before .before .before .before .before .before .before .before .before .before .before .before .args .n) (c .before .before .before .before .before .before .before .before .before .before .before .before .before .before .args .number) (c .before .before .before .before .before .before .before .before .before .before .before .before .before .before .args .keep) (c .before .before .before .before .before .before .before .before .before .before .before .before .before .before .args .row .now) (λ i. c .before .before .before .before .before .before .before .before .before .before .before .before .before .shared-slice-known .given i .fits) (c .before .before .before .before .before .before .before .before .before .before .before .before .before .before .pre .0 .0) (c .before .before .before .before .before .before .before .before .before .before .before .before .before .before .pre .0 .2) (c .before .before .before .before .before .before .before .before .before .before .read-track .result) (c .before .before .before .before .before .before .before .before .before .before .read-track .last .1 .1 .1 .1 .1 .0) (c .before .before .before .before .before .before .before .before .before .before .read-track .ensures) (c .before .before .before .before .before .before .got2 .given .0 .0) _ (c .before .before .before .before .before .before .got2 .given .1) (c .before .before .before .before .if1 .taken) (c .before .before .clear2 .ensures)
+
+-- src/lib.rt:126:1
+same-length-2 : tie.Need-same-length-2
+same-length-2 c = search needs
+
+-- src/lib.rt:126:1
+returns-2 : tie.Need-returns-2
+returns-2 c = track-refused (c .before .before .before .before .before .before .before .before .before .before .before .before .before .args .s .now) (c .before .before .before .before .before .before .before .before .before .before .before .before .before .args .start) (c .before .before .before .before .before .before .before .before .before .before .before .before .before .args .n) (c .before .before .before .before .before .before .before .before .before .before .before .before .before .args .number) (c .before .before .before .before .before .before .before .before .before .before .before .before .before .args .keep) (c .before .before .before .before .before .before .before .before .before .before .before .before .before .args .row .now) (λ i. c .before .before .before .before .before .before .before .before .before .before .before .before .shared-slice-known .given i .fits) (c .before .before .before .before .before .before .before .before .before .before .before .before .before .pre .0 .0) (c .before .before .before .before .before .before .before .before .before .before .before .before .before .pre .0 .2) (c .before .before .before .before .before .before .before .before .before .read-track .result) (c .before .before .before .before .before .before .before .before .before .read-track .last .1 .1 .1 .1 .1 .0) (c .before .before .before .before .before .before .before .before .before .read-track .ensures) (c .before .before .before .before .before .got .given .0 .0) (c .before .before .before .before .before .got .given .0 .1 .0) _ (c .before .before .before .before .before .got .given .1) (c .before .before .clear .ensures)
+
+-- src/lib.rt:126:1
+same-length-3 : tie.Need-same-length-3
+same-length-3 c = search needs
+
+-- src/lib.rt:126:1
+returns-3 : tie.Need-returns-3
+returns-3 c = track-ended (c .before .before .before .before .before .before .before .before .before .before .args .s .now) (c .before .before .before .before .before .before .before .before .before .before .args .start) (c .before .before .before .before .before .before .before .before .before .before .args .n) (c .before .before .before .before .before .before .before .before .before .before .args .number) (c .before .before .before .before .before .before .before .before .before .before .args .keep) (c .before .before .before .before .before .before .before .before .before .before .args .row .now) (λ i. c .before .before .before .before .before .before .before .before .before .shared-slice-known .given i .fits) (c .before .before .before .before .before .before .before .before .before .before .pre .0 .0) (c .before .before .before .before .before .before .before .before .before .before .pre .0 .2) (c .before .before .before .before .before .before .read-track .result) (c .before .before .before .before .before .before .read-track .last .1 .1 .1 .1 .1 .0) (c .before .before .before .before .before .before .read-track .ensures) (c .before .before .got2 .given .0 .0) (c .before .before .got2 .given .1) (c .if1 .left)
+
+pub read-body-spec : {M : Type 1} → statement M
+read-body-spec =
+    tie.close
+    (tie.spec
+    read-track-requires
+    enum-known-got
+    clear-requires
+    enum-known-got-2
+    clear-requires-2
+    same-length
+    returns
+    same-length-2
+    returns-2
+    same-length-3
+    returns-3)

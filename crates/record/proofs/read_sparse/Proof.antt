@@ -1,0 +1,27 @@
+use Rattle.record.proofs.ListLaws.{sparse-stored}
+use borrow.Author.Needs.{needs}
+use Rattle.record.proofs.read_sparse.Statement.{statement}
+use Rattle.record.proofs.read_sparse.Tie as tie
+use Rattle.record.proofs.read_sparse.Reads as reads
+use Rattle.record.proofs.read_sparse.Lts as lts
+use Rattle.difflist.proofs.apply_list.Reads as apply-list-reads
+use Rattle.packed.proofs.fill.Reads as fill-reads
+
+-- src/lib.rt:101:5
+fill-requires : tie.Need-fill-requires
+fill-requires c κs = search needs
+
+-- src/lib.rt:103:5
+apply-list-requires : tie.Need-apply-list-requires
+apply-list-requires c κs = search needs
+
+-- src/lib.rt:97:1
+same-length : tie.Need-same-length
+same-length c = search needs
+
+-- src/lib.rt:97:1
+returns : tie.Need-returns
+returns c = sparse-stored (c .before .before .before .before .before .before .before .before .before .before .args .s .now) (c .before .before .before .before .before .before .before .before .before .before .args .start) (c .before .before .before .before .before .before .before .before .before .before .args .n) (c .before .before .before .before .before .before .before .before .before .before .args .category) (c .before .before .before .before .before .before .before .before .before .before .args .row .now) (c .before .before .before .before .before .before .fill .last .0) (c .before .before .before .before .before .before .fill .ensures) _ (c .before .before .apply-list .ensures)
+
+pub read-sparse-spec : {M : Type 1} → statement M
+read-sparse-spec = tie.close (tie.spec fill-requires apply-list-requires same-length returns)

@@ -1,0 +1,24 @@
+-- The contract: what a record's body, as the format reads it, does to the row that holds its anchor's categories.
+-- Assumes nothing.
+use Prim.Native.Nat.{ℕ}
+use mathlib.Core.Bool.{Bool, _&&_}
+use mathlib.Core.List.{List, _++_}
+use lib.ListN.{length, take, drop, replicate}
+use Rattle.format.specs.Base.{pick, Out, ok, refuse}
+use Rattle.format.specs.Track.{leans}
+use Rattle.format.specs.Body.{Body, read-body, body-categories}
+use Rattle.record.specs.declared.RecordReply.{RecordReply}
+use Rattle.record.specs.declared.RecordReply.the-variants.{Accepted, Refused}
+
+-- a reply, with what the row then holds
+pub data Outcome : Type 0 where
+  done : RecordReply → List ℕ → Outcome
+
+-- an accepted record's categories stand in the row's first n bytes, unless the row is kept; after a refusal they are zero
+abbrev pub replied : Bool → ℕ → List ℕ → Out Body → Outcome
+replied kept n row (ok body left) = done Accepted (pick kept row (body-categories n (take n row) body ++ drop n row))
+replied kept n row (refuse number place) = done (Refused number place) (replicate n 0 ++ drop n row)
+
+-- the record of a kind at `start`, that ends where the list l does. The row is kept where a leaning record is only checked.
+unfoldable pub recorded : Bool → ℕ → ℕ → List ℕ → ℕ → List ℕ → Outcome
+recorded keep n number l start row = replied (leans number && keep) n row (read-body (length l) n (take n row) number (drop start l))

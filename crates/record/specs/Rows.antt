@@ -1,0 +1,38 @@
+-- What the functions of the code answer before a refusal has cleared the row.
+-- Assumes nothing.
+use Prim.Native.Nat.{ℕ}
+use mathlib.Core.Bool.{Bool, not, _||_}
+use mathlib.Core.List.{List, _++_, map}
+use lib.ListN.{length, take, drop, replicate}
+use lib.Dec.{eqb}
+use Rattle.format.specs.Base.{pick, Out, ok, refuse, bind, map-out}
+use Rattle.format.specs.Packed.{one, read-packed}
+use Rattle.format.specs.Difflist.{number-width, read-list}
+use Rattle.format.specs.Track.{Kind, rule, apply, read-kind, track-categories}
+use Rattle.cursor.specs.Steps.{before}
+use Rattle.packed.specs.Unpacked.{of-pair}
+use Rattle.difflist.specs.Entries.{Outcome, out}
+use Rattle.difflist.specs.declared.ListStep.the-variants.{Listed, Refused}
+
+-- the row's first n bytes zero after a refusal
+abbrev pub wiped : ℕ → Outcome → Outcome
+wiped n (out (Listed c) row) = out (Listed c) row
+wiped n (out (Refused number place) row) = out (Refused number place) (replicate n 0 ++ drop n row)
+
+-- categories in the row's first n bytes, unless the row is kept
+abbrev pub stored : Bool → ℕ → ℕ → List ℕ → Out (List ℕ) → Outcome
+stored kept end n row (ok categories left) = out (Listed (before end left)) (pick kept row (categories ++ drop n row))
+stored kept end n row (refuse number place) = out (Refused number place) (replicate n 0 ++ drop n row)
+
+-- the categories of a track of a kind at `start`, over the row that holds its anchor's
+unfoldable pub kind-categories : ℕ → List ℕ → Kind → List ℕ → ℕ → Out (List ℕ)
+kind-categories n row k l start = map-out (track-categories n (take n row)) (read-kind (length l) n (take n row) k (drop start l))
+
+-- the bits and the list of a track of kind 1, after its pair code
+abbrev pub off-both : ℕ → ℕ → ℕ → ℕ → Bool
+off-both lower higher sample value = not (eqb value lower || eqb value higher)
+
+unfoldable pub pair-categories : ℕ → ℕ → ℕ → List ℕ → ℕ → Out (List ℕ)
+pair-categories lower higher n l at =
+    bind (read-packed (length l) one n (drop at l)) (λ bits left.
+    map-out (λ es. apply es (map (of-pair lower higher) bits)) (read-list (rule n (off-both lower higher)) (number-width n) (length l) left))

@@ -1,0 +1,149 @@
+// A record's body, checked and read into a row of categories (01, Categories and kinds). Every slice `s` is the file cut where the record ends,
+// so that its length is the record's end and a place in it is a place in the file.
+use cursor::ByteStep;
+use cursor::Cursor;
+use difflist::ListRule;
+use difflist::ListStep;
+use format::Pair;
+use format::PairFound;
+use packed::PackedStep;
+ghost use mathlib.Core.Path.{_≡_};
+ghost use Prim.Native.Nat.{_≤_, _<_};
+ghost use mathlib.Core.Bool.{false, _&&_};
+ghost use lib.ListN.{length, take};
+ghost use Rattle.format.specs.Track.{Kind, array, paired, against-anchor, against-category, kind, leans};
+ghost use Rattle.difflist.specs.Entries.{out};
+ghost use Rattle.record.specs.Rows.{wiped, stored, pair-categories, kind-categories};
+ghost use Rattle.record.specs.Recorded.{done, recorded};
+
+pub enum RecordReply {
+    Accepted,
+    Refused { number: u8, place: usize },
+}
+
+// "Kind 0: the packed array."
+fn read_array(s: &[u8], start: usize, n: usize, row: &mut [u8]) -> ListStep
+    requires { ⌜ (start ≤ length (now s)) × (n ≤ 65536) × (n ≤ length (now row)) ⌝ }
+    ensures { λ r. ⌜ wiped n (out r (now (row .exit))) ≡ stored false (length (now (s .entry))) n (now (row .entry)) (kind-categories n (now (row .entry)) array (now (s .entry)) start) ⌝ }
+{
+    let got = packed::unpack_categories(s, start, n, row);
+    match got {
+        PackedStep::Refused { number, place } => ListStep::Refused { number, place },
+        PackedStep::Next(at) => ListStep::Listed(Cursor { at }),
+    }
+}
+
+// "a bit per sample (set: the higher category of the pair), then a list of pairs for samples in the other two categories"
+fn read_bits(s: &[u8], at: usize, n: usize, lower: u8, higher: u8, row: &mut [u8]) -> ListStep
+    requires { ⌜ (at ≤ length (now s)) × (n ≤ 65536) × (n ≤ length (now row)) ⌝ }
+    ensures { λ r. ⌜ wiped n (out r (now (row .exit))) ≡ stored false (length (now (s .entry))) n (now (row .entry)) (pair-categories lower higher n (now (s .entry)) at) ⌝ }
+{
+    let got = packed::unpack_pair(s, at, n, lower, higher, row);
+    match got {
+        PackedStep::Refused { number, place } => ListStep::Refused { number, place },
+        PackedStep::Next(at) => {
+            let c = Cursor { at };
+            difflist::apply_list(s, n, ListRule::OffPair(lower, higher), true, c, row)
+        }
+    }
+}
+
+// "Kind 1: a pair code". 14, "pair code unknown", at "that byte".
+fn read_pair(s: &[u8], start: usize, n: usize, row: &mut [u8]) -> ListStep
+    requires { ⌜ (start ≤ length (now s)) × (n ≤ 65536) × (n ≤ length (now row)) ⌝ }
+    ensures { λ r. ⌜ wiped n (out r (now (row .exit))) ≡ stored false (length (now (s .entry))) n (now (row .entry)) (kind-categories n (now (row .entry)) paired (now (s .entry)) start) ⌝ }
+{
+    let c = Cursor { at: start };
+    let got = c.byte(s);
+    match got {
+        ByteStep::Refused { number, place } => ListStep::Refused { number, place },
+        ByteStep::Byte(code, next) => {
+            let found = format::pair_of(code);
+            match found {
+                PairFound::Unknown => ListStep::Refused {
+                    number: 14,
+                    place: start,
+                },
+                PairFound::Known(pair) => read_bits(s, next.at, n, pair.lower, pair.higher, row),
+            }
+        }
+    }
+}
+
+// "Kind 2: a list against the anchor". "Kind 3: as kind 2, then 0 and 2 exchanged for all samples", so after the list. With `keep` the record is
+// only checked, and the anchor's row stays.
+fn read_leaning(s: &[u8], start: usize, n: usize, inverted: bool, keep: bool, row: &mut [u8]) -> ListStep
+    requires { ⌜ (start ≤ length (now s)) × (n ≤ 65536) × (n ≤ length (now row)) ⌝ }
+    ensures { λ r. ⌜ wiped n (out r (now (row .exit))) ≡ stored keep (length (now (s .entry))) n (now (row .entry)) (kind-categories n (now (row .entry)) (against-anchor inverted) (now (s .entry)) start) ⌝ }
+{
+    let c = Cursor { at: start };
+    let got = difflist::apply_list(s, n, ListRule::OffRow, !keep, c, row);
+    match got {
+        ListStep::Refused { number, place } => ListStep::Refused { number, place },
+        ListStep::Listed(next) => {
+            if keep {
+                return ListStep::Listed(next);
+            }
+            if inverted {
+                packed::exchange_row(row, n);
+                return ListStep::Listed(next);
+            }
+            ListStep::Listed(next)
+        }
+    }
+}
+
+// "Kinds 4, 6, 7: a list of the samples outside category 0, 2, 3": against a row in that category.
+fn read_sparse(s: &[u8], start: usize, n: usize, category: u8, row: &mut [u8]) -> ListStep
+    requires { ⌜ (start ≤ length (now s)) × (n ≤ 65536) × (n ≤ length (now row)) ⌝ }
+    ensures { λ r. ⌜ wiped n (out r (now (row .exit))) ≡ stored false (length (now (s .entry))) n (now (row .entry)) (kind-categories n (now (row .entry)) (against-category category) (now (s .entry)) start) ⌝ }
+{
+    packed::fill(row, n, category);
+    let c = Cursor { at: start };
+    difflist::apply_list(s, n, ListRule::OffRow, true, c, row)
+}
+
+// The main track; the header lets only these kinds through (8).
+fn read_track(s: &[u8], start: usize, n: usize, number: u8, keep: bool, row: &mut [u8]) -> ListStep
+    requires { ⌜ (start ≤ length (now s)) × (n ≤ 65536) × (n ≤ length (now row)) ⌝ }
+    requires { ⌜ (number < 8) × (number ≡ 5 → ⊥) ⌝ }
+    ensures { λ r. ⌜ wiped n (out r (now (row .exit))) ≡ stored (leans number && keep) (length (now (s .entry))) n (now (row .entry)) (kind-categories n (now (row .entry)) (kind number) (now (s .entry)) start) ⌝ }
+{
+    if number == 0 {
+        return read_array(s, start, n, row);
+    }
+    if number == 1 {
+        return read_pair(s, start, n, row);
+    }
+    if number < 4 {
+        return read_leaning(s, start, n, number == 3, keep, row);
+    }
+    read_sparse(s, start, n, number - 4, row)
+}
+
+// The record of a kind, from `start` on. The row's first n bytes hold the anchor's categories if the kind leans; they become the record's own,
+// or stay where a leaning record is only checked (`keep`). 01, Replies: "Lastly 13"; after every refusal they are zero.
+pub fn read_body(s: &[u8], start: usize, n: usize, number: u8, keep: bool, row: &mut [u8]) -> RecordReply
+    requires { ⌜ (start ≤ length (now s)) × (n ≤ 65536) × (n ≤ length (now row)) ⌝ }
+    requires { ⌜ (number < 8) × (number ≡ 5 → ⊥) ⌝ }
+    ensures { λ r. ⌜ done r (now (row .exit)) ≡ recorded keep n number (now (s .entry)) start (now (row .entry)) ⌝ }
+{
+    let got = read_track(s, start, n, number, keep, row);
+    match got {
+        ListStep::Refused { number, place } => {
+            packed::clear(row, n);
+            RecordReply::Refused { number, place }
+        }
+        ListStep::Listed(next) => {
+            let at = next.at;
+            if at < s.len() {
+                packed::clear(row, n);
+                return RecordReply::Refused {
+                    number: 13,
+                    place: at,
+                };
+            }
+            RecordReply::Accepted
+        }
+    }
+}
