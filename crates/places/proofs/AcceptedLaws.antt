@@ -18,12 +18,13 @@ use Rattle.format.specs.File.{type-of}
 use Rattle.format.proofs.Rules.{split}
 use Rattle.format.proofs.OffsetsLaws.{from-1-to-most, from-1-to-positive}
 use Rattle.format.proofs.HeaderLaws.{header-exactly}
-use Rattle.format.proofs.StartLaws.{plain-start, plain-type, record-end, record-inside}
+use Rattle.format.proofs.StartLaws.{plain-start, plain-type, plain-length, body-length-at, record-end, record-inside}
 use Rattle.format.proofs.RefusalsByIndex.{fixed-at, refusal-1, fixed-at-layout}
 use Rattle.blocks.specs.declared.Fields.{Fields}
 use Rattle.blocks.specs.Parts.{fixed, fields-of}
 use Rattle.places.specs.declared.Place.{Place}
-use Rattle.places.specs.Located.{HasVariant, place-in}
+use Rattle.places.specs.declared.Extent.{Extent}
+use Rattle.places.specs.Located.{HasVariant, place-in, extent-in}
 
 -- a file has one layout
 pub one-layout : (bs : List ℕ) (l m : Layout) → read-layout 65536 bs ≡ ok l [] → read-layout 65536 bs ≡ ok m [] → l ≡ m
@@ -33,6 +34,9 @@ one-layout bs l m p q = cc
 pub same-place : (start end kind : ℕ) (p : Place) → start ≡ p .start → end ≡ p .end → kind ≡ p .kind
     → _≡_ {A = Place} (record { start = start; end = end; kind = kind }) p
 same-place start end kind p a b c = rw (a, b, c) refl
+
+pub same-extent : (size kind : ℕ) (x : Extent) → size ≡ x .size → kind ≡ x .kind → _≡_ {A = Extent} (record { size = size; kind = kind }) x
+same-extent size kind x a b = rw (a, b) refl
 
 -- an accepted file has its first twelve bytes
 pub long : (bs : List ℕ) (l : Layout) → read-layout 65536 bs ≡ ok l [] → 12 ≤ length bs
@@ -103,3 +107,9 @@ module _ (bs : List ℕ) (v : FileVariant) (h : HasVariant bs v) (y : Bytes bs) 
 
       pub plain-small : v .0 * ((f .samples + 3) / 4) ≤ 274877906944
       plain-small = mul-le-mul {n₁ = v .0} {m₁ = (f .samples + 3) / 4} {n₂ = 16777216} {m₂ = 16384} (omega (arith, below, most)) (omega (arith, samples-most))
+
+      pub plain-extent : (l : Layout) → read-layout 65536 bs ≡ ok l [] → _≡_ {A = Extent} (record { size = (f .samples + 3) / 4; kind = 0 }) (extent-in l v)
+      plain-extent l q =
+          same-extent _ 0 (extent-in (h .layout) v) (rw samples-are (sym (sym (body-length-at v (h .layout)) ∙ plain-length 65536 v (h .layout) obeys is-plain (h .below))))
+          (sym (plain-type 65536 v (h .layout) obeys is-plain (h .below)))
+          ∙ ap (λ (z : Layout). extent-in z v) (one-layout bs (h .layout) l (h .accepted) q)

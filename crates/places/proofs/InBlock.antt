@@ -31,8 +31,9 @@ use Rattle.columns.proofs.Arrangement.{types-fit, lengths-fit, place-is, bits-a
 use Rattle.types.proofs.Types.{stands}
 use Rattle.header.proofs.BlockedLaws.{blocks-fit}
 use Rattle.places.specs.declared.Place.{Place}
-use Rattle.places.specs.Located.{HasVariant, HasLeaner, place-in}
-use Rattle.places.proofs.AcceptedLaws.{one-layout, same-place, obeys, written, record-ends, header-ends, fields-are, count-is, below, most}
+use Rattle.places.specs.declared.Extent.{Extent}
+use Rattle.places.specs.Located.{HasVariant, HasLeaner, place-in, extent-in}
+use Rattle.places.proofs.AcceptedLaws.{one-layout, same-place, same-extent, obeys, written, record-ends, header-ends, fields-are, count-is, below, most}
 
 -- fewer types take no more bytes
 fewer-types : (i n : ℕ) (half : Bool) → i ≤ n → packed-size (pick half four eight) i ≤ packed-size (pick half four eight) n
@@ -155,6 +156,13 @@ module _ (bs : List ℕ) (v : FileVariant) (h : HasVariant bs v) (y : Bytes bs) 
           let last : record-start 65536 m v + length₁ ≡ record-start 65536 m (next-variant v) = omega (arith, length-is length₁ k, record-end 65536 v m (h .below)) in
           same-place (offset + before) (offset + before + length₁) kind (place-in m v) first (omega (arith, first, last)) (type-is kind t)
           ∙ ap (λ (z : Layout). place-in z v) (one-layout bs m l (h .accepted) a)
+
+      pub block-extent-is : (size₁ kind : ℕ) → size₁ ≡ number-at (b .width) (drop (b .at + block * b .full + size + b .width * i .0) bs)
+          → kind ≡ digit-at (pick (b .half) four eight) (drop (b .at + block * b .full) bs) (i .0) → (l : Layout) → read-layout 65536 bs ≡ ok l []
+          → _≡_ {A = Extent} (record { size = size₁; kind = kind }) (extent-in l v)
+      block-extent-is size₁ kind k t l a =
+          same-extent size₁ kind (extent-in (h .layout) v) (length-is size₁ k) (type-is kind t)
+          ∙ ap (λ (z : Layout). extent-in z v) (one-layout bs (h .layout) l (h .accepted) a)
 
       -- and no sum of it wraps
       pub sums-fit : (offset before length₁ : ℕ) → offset ≡ number-at 8 (drop (12 + 8 * block) bs)

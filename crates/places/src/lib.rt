@@ -7,7 +7,7 @@ ghost use Rattle.format.specs.Layout.{Layout};
 ghost use Rattle.format.specs.Header.{read-layout};
 ghost use Rattle.format.proofs.RefusalsByIndex.{fixed-at};
 ghost use Rattle.blocks.specs.Parts.{fields-of};
-ghost use Rattle.places.specs.Located.{HasVariant, HasLeaner, place-in};
+ghost use Rattle.places.specs.Located.{HasVariant, HasLeaner, place-in, extent-in};
 use blocks::Fields;
 use blocks::blocks_of;
 use blocks::fields_at;
@@ -79,4 +79,39 @@ pub fn anchor_of(file: &[u8], v: FileVariant) -> FileVariant
         block,
         nearest_before(file, b.at + block * b.full, in_block(v), b.half),
     )
+}
+
+// The length and the type of a record, with no look at the records before it.
+pub struct Extent {
+    pub size: usize,
+    pub kind: u8,
+}
+
+fn extent_in_block(file: &[u8], f: Fields, v: FileVariant) -> Extent
+    requires { ⌜ HasVariant (now file) v × (f ≡ fields-of (fixed-at (now file))) × (f .mode ≡ 0x02 → ⊥) ⌝ }
+    ensures { λ r. ⌜ ((l : Layout) → read-layout 65536 (now (file .entry)) ≡ ok l [] → r ≡ extent-in l v) ⌝ }
+{
+    let b = blocks_of(f);
+    let block = block_of(v);
+    let i = in_block(v);
+    let types = b.at + block * b.full;
+    let lengths = types + types_size(count_in(f.variants, block), b.half);
+    Extent {
+        size: number_at(file, lengths + b.width * i.0, b.width) as usize,
+        kind: type_at(file, types, i.0, b.half),
+    }
+}
+
+// For a walk through the records, one after another: it knows where each starts.
+pub fn extent_of(file: &[u8], f: Fields, v: FileVariant) -> Extent
+    requires { ⌜ HasVariant (now file) v × (f ≡ fields-of (fixed-at (now file))) ⌝ }
+    ensures { λ r. ⌜ ((l : Layout) → read-layout 65536 (now (file .entry)) ≡ ok l [] → r ≡ extent-in l v) ⌝ }
+{
+    if f.mode == 0x02 {
+        return Extent {
+            size: (f.samples + 3) / 4,
+            kind: 0,
+        };
+    }
+    extent_in_block(file, f, v)
 }
