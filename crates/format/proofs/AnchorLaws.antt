@@ -91,7 +91,7 @@ first-stands i type e h = go (ltb type 8) (eqb type 5) (leans type) (simp (eq-eq
 
 module _ (K : ℕ) (types : List ℕ) (p : zero < K) (h : TypesAllowed K (file-variant 0) types) where
   -- a variant at the start of a block stands
-  stands-at : (v : ℕ) → v < length types → v % K ≡ 0 → leans (getD types v 0) ≡ false
+  pub stands-at : (v : ℕ) → v < length types → v % K ≡ 0 → leans (getD types v 0) ≡ false
   stands-at v l e =
       first-stands (in-block K (file-variant (0 + v))) (getD types v 0) (rw zero-add e) (types-allowed-at K 0 v types h l)
 

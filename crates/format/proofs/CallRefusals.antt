@@ -42,13 +42,13 @@ records-refusals K N start v lent (type ∷ types) (bs ∷ stored) h y =
     refuses-map (Within 12 18) _ (read-records N (start + length bs) (next-anchor type lent (body-categories N lent body)) types stored)
     (records-refusals K N (start + length bs) (next-variant v) (next-anchor type lent (body-categories N lent body)) types stored (h .1) (y .1)))
 
-stored-bytes : (v : ℕ) (stored : List (List ℕ)) → AllBytes stored → Bytes (getD stored v [])
+pub stored-bytes : (v : ℕ) (stored : List (List ℕ)) → AllBytes stored → Bytes (getD stored v [])
 stored-bytes v [] y = tt
 stored-bytes zero (bs ∷ stored) y = y .0
 stored-bytes (suc v) (bs ∷ stored) y = stored-bytes v stored (y .1)
 
 module _ (K : ℕ) (l : Layout) (p : zero < K) (h : LayoutObeys K l) (y : AllBytes (l .bodies)) where
-  all-refusals : Refuses (Within 12 18) (read-all K l)
+  pub all-refusals : Refuses (Within 12 18) (read-all K l)
   unfolding read-all
   all-refusals = records-refusals K (l .samples) (header-end K (fixed-of l)) (file-variant 0) [] (l .types) (l .bodies) (h .types) y
 
@@ -61,7 +61,7 @@ module _ (K : ℕ) (l : Layout) (p : zero < K) (h : LayoutObeys K l) (y : AllByt
       (allowed-kind (in-block K (file-variant (0 + v .0))) (type-of l v) (types-allowed-at K 0 (v .0) (l .types) (h .types) there)) (stored-bytes (v .0) (l .bodies) y))
 
   -- of one variant and its anchor: 12 to 18
-  variant-refusals : (v : FileVariant) → v .0 < length (l .bodies) → Refuses (Within 12 18) (read-variant K l v)
+  pub variant-refusals : (v : FileVariant) → v .0 < length (l .bodies) → Refuses (Within 12 18) (read-variant K l v)
   unfolding read-variant
   variant-refusals v m =
       by-test (Refuses (Within 12 18)) (leans (type-of l v))

@@ -1,0 +1,123 @@
+-- A walk through all records in variant order: what is left to check, and what the row holds.
+-- Assumes nothing.
+use mathlib.Core.Path.{_≡_, refl, sym, ap, ap₂, _∙_, subst}
+use mathlib.Core.Bool.{Bool, true, false, _&&_}
+use Prim.Native.Nat.{ℕ, zero, suc, _+_, _≤_, _<_}
+use native.Mathlib.Nat.{add-zero}
+use mathlib.Core.List.{List, [], _++_}
+use lib.ListN.{length, take, drop, getD, replicate}
+use lib.Dec.{lit<}
+use native.Mathlib.Omega.{arith}
+use Rattle.format.specs.Base.{pick, Bytes, Out, ok, refuse}
+use Rattle.format.specs.Track.{leans}
+use Rattle.format.specs.Body.{Body}
+use Rattle.format.specs.Variant.{file-variant}
+use Rattle.format.specs.Layout.{most-variants, sum, header-end, Layout, fixed-of, record-start}
+use Rattle.format.specs.Header.{read-layout}
+use Rattle.format.specs.File.{read-all, type-of}
+use Rattle.format.proofs.OffsetsLaws.{from-1-to-positive}
+use Rattle.format.proofs.AnchorLaws.{stands-at}
+use Rattle.format.proofs.FileLaws.{one-type-each}
+use Rattle.format.proofs.StartLaws.{record-end}
+use Rattle.format.proofs.RecordTurns.{outcome, left-to-check, record-over, then-check, all-left, none-left, turn-check, first-over-any, row-carried}
+use Rattle.places.specs.declared.Extent.{Extent}
+use Rattle.places.specs.declared.Place.{Place}
+use Rattle.places.specs.Located.{place-in, extent-in}
+use Rattle.places.proofs.AcceptedLaws.{same-place}
+use Rattle.record.specs.declared.RecordReply.{RecordReply}
+use Rattle.record.specs.declared.RecordReply.the-variants.{Accepted, Refused}
+use Rattle.record.specs.Recorded.{Outcome, done, replied, recorded}
+use Rattle.reader.specs.Rows.{cleared, record-reply, all-checked}
+use Rattle.reader.proofs.Replies.{row-of, reply-of, refusal}
+use Rattle.reader.proofs.Cut.{obeys, body-is-bytes, inside, recorded-is}
+
+-- before the record of variant v, that starts at `start`
+pub record Walk (l : Layout) (row₀ row : List ℕ) (v start : ℕ) : Type 0 where
+  pub reached : v ≤ length (l .bodies)
+  pub start-is : start ≡ record-start 65536 l (file-variant v)
+  pub left-is : left-to-check 65536 l v (take (l .samples) row) ≡ outcome (read-all 65536 l)
+  pub rest-is : drop (l .samples) row ≡ drop (l .samples) row₀
+
+reply-outcome : {A : Type 0} (m : Out A) → record-reply (outcome m) ≡ record-reply m
+reply-outcome (ok a left) = refl
+reply-outcome (refuse number place) = refl
+
+kept-too : (b : Bool) → b && true ≡ b
+kept-too true = refl
+kept-too false = refl
+
+module _ (bs : List ℕ) (y : Bytes bs) (l : Layout) (a : read-layout 65536 bs ≡ ok l []) (row₀ : List ℕ) where
+  -- the first record leans on nothing
+  pub starts : (start : ℕ) → start ≡ header-end 65536 (fixed-of l) → Walk l row₀ row₀ 0 start
+  unfolding record-start sum
+  starts start e =
+      let some : zero < length (l .bodies) = omega (arith, from-1-to-positive most-variants (length (l .bodies)) (obeys bs y l a .fixed .variants)) in
+      let first : leans (type-of l (file-variant 0)) ≡ false
+      = stands-at 65536 (l .types) (lit< tt) (obeys bs y l a .types) 0 (omega (arith, one-type-each 65536 l (obeys bs y l a))) refl in
+      record {
+        reached = omega arith;
+        start-is = e ∙ sym (add-zero (header-end 65536 (fixed-of l)));
+        left-is = first-over-any 65536 l (lit< tt) (obeys bs y l a) (take (l .samples) row₀) (body-is-bytes bs y l a 0) some first ∙ all-left 65536 l;
+        rest-is = refl;
+      }
+
+  -- nothing is left
+  pub ends : (row : List ℕ) (v start : ℕ) → length (l .bodies) ≤ v → Walk l row₀ row v start → done Accepted (replicate (l .samples) 0 ++ drop (l .samples) row) ≡ all-checked l row₀
+  ends row v start m w =
+      let all : v ≡ length (l .bodies) = omega (arith, w .reached) in
+      let passed : outcome (read-all 65536 l) ≡ ok tt []
+      = sym (w .left-is) ∙ ap (λ (z : ℕ). left-to-check 65536 l z (take (l .samples) row)) all ∙ none-left 65536 l (take (l .samples) row) (obeys bs y l a) in
+      ap₂ (λ (r : RecordReply) (rest : List ℕ). done r (replicate (l .samples) 0 ++ rest))
+      (sym (sym (reply-outcome (read-all 65536 l)) ∙ ap record-reply passed)) (w .rest-is)
+
+  module _ (row : List ℕ) (v start : ℕ) (w : Walk l row₀ row v start) (b : v < length (l .bodies)) (x : Extent) (e : x ≡ extent-in l (file-variant v)) where
+    pub its-place : _≡_ {A = Place} (record { start = start; end = start + x .size; kind = x .kind }) (place-in l (file-variant v))
+    its-place =
+        same-place start (start + x .size) (x .kind) (place-in l (file-variant v)) (w .start-is)
+        (omega (arith, ap (λ (z : Extent). z .size) e, record-end 65536 (file-variant v) l b, w .start-is)) (ap (λ (z : Extent). z .kind) e)
+
+    module _ (row₁ : List ℕ) (r : RecordReply) (d : done r row₁ ≡ recorded true (l .samples) (x .kind) (take (start + x .size) bs) start row) where
+      found : done r row₁ ≡ replied (leans (type-of l (file-variant v))) (l .samples) row (record-over 65536 l v (take (l .samples) row))
+      found =
+          d ∙ recorded-is bs y l a (file-variant v) b start (start + x .size) (x .kind) its-place true row
+          ∙ ap (λ (t : Bool). replied t (l .samples) row (record-over 65536 l v (take (l .samples) row))) (kept-too (leans (type-of l (file-variant v))))
+
+      turn : left-to-check 65536 l v (take (l .samples) row) ≡ then-check 65536 l v (take (l .samples) row) (record-over 65536 l v (take (l .samples) row))
+      turn = turn-check 65536 l v (take (l .samples) row) (obeys bs y l a) b
+
+      pub goes-on : r ≡ Accepted → Walk l row₀ row₁ (v + 1) (start + x .size)
+      goes-on q =
+          let next : suc v ≡ v + 1 = omega arith in
+          subst (λ (z : ℕ). Walk l row₀ row₁ z (start + x .size)) next (go (record-over 65536 l v (take (l .samples) row)) refl)
+        where
+          go : (m : Out Body) → record-over 65536 l v (take (l .samples) row) ≡ m → Walk l row₀ row₁ (suc v) (start + x .size)
+          go (refuse number place) n =
+              let t : done r row₁ ≡ done (Refused number place) (replicate (l .samples) 0 ++ drop (l .samples) row)
+              = found ∙ ap (replied (leans (type-of l (file-variant v))) (l .samples) row) n in
+              absurd (omega (arith, ap (λ (z : Outcome). refusal (reply-of z)) t, ap refusal q))
+          go (ok body left) n =
+              let t = found ∙ ap (replied (leans (type-of l (file-variant v))) (l .samples) row) n in
+              let carried = row-carried 65536 l (lit< tt) (obeys bs y l a) v row body left (body-is-bytes bs y l a v) n in
+              record {
+                reached = omega arith;
+                start-is = ap (λ (z : Place). z .end) its-place;
+                left-is = ap (λ (z : List ℕ). left-to-check 65536 l (suc v) (take (l .samples) z)) (ap row-of t)
+                ∙ ap (left-to-check 65536 l (suc v)) (carried .0)
+                ∙ sym (turn ∙ ap (then-check 65536 l v (take (l .samples) row)) n) ∙ w .left-is;
+                rest-is = ap (λ (z : List ℕ). drop (l .samples) z) (ap row-of t) ∙ carried .1 ∙ w .rest-is;
+              }
+
+      pub stops : (number place : ℕ) → r ≡ Refused number place → done (Refused number place) row₁ ≡ all-checked l row₀
+      stops number place q = go (record-over 65536 l v (take (l .samples) row)) refl
+        where
+          go : (m : Out Body) → record-over 65536 l v (take (l .samples) row) ≡ m → done (Refused number place) row₁ ≡ all-checked l row₀
+          go (ok body left) n =
+              let t = found ∙ ap (replied (leans (type-of l (file-variant v))) (l .samples) row) n in
+              absurd (omega (arith, ap (λ (z : Outcome). refusal (reply-of z)) t, ap refusal q))
+          go (refuse other there) n =
+              let t : done r row₁ ≡ done (Refused other there) (replicate (l .samples) 0 ++ drop (l .samples) row)
+              = found ∙ ap (replied (leans (type-of l (file-variant v))) (l .samples) row) n in
+              let all : outcome (read-all 65536 l) ≡ refuse other there
+              = sym (w .left-is) ∙ turn ∙ ap (then-check 65536 l v (take (l .samples) row)) n in
+              ap₂ done (sym q ∙ ap reply-of t ∙ sym (sym (reply-outcome (read-all 65536 l)) ∙ ap record-reply all))
+              (ap row-of t ∙ ap (λ (rest : List ℕ). replicate (l .samples) 0 ++ rest) (w .rest-is))
