@@ -2,12 +2,12 @@
 ghost use mathlib.Core.Path.{_≡_};
 ghost use mathlib.Core.Bool.{false};
 ghost use mathlib.Core.List.{[]};
-ghost use Prim.Native.Nat.{ℕ, min, _+_, _-_, _*_, _<_, _≤_};
+ghost use Prim.Native.Nat.{_+_, _-_, _*_, _<_, _≤_};
 ghost use lib.ListN.{length, drop};
 ghost use lib.Dec.{eqb};
 ghost use Rattle.format.specs.Base.{pick, Bytes, ok};
 ghost use Rattle.format.specs.Packed.{one, four, eight, packed-size};
-ghost use Rattle.format.specs.Layout.{plain-mode, block-size, header-end, FixedObeys};
+ghost use Rattle.format.specs.Layout.{plain-mode, block-size, header-end};
 ghost use Rattle.format.proofs.UnusedBits.{unused-bits};
 ghost use Rattle.format.proofs.RefusalsByIndex.{fixed-at};
 ghost use Rattle.format.proofs.RefusalsByIndexArrays.{need-unused};

@@ -1,7 +1,7 @@
 // The types and the lengths of a whole file in mode 0x10, block after block: rules 8 and 9 of the header check.
 ghost use mathlib.Core.Path.{_≡_};
 ghost use mathlib.Core.List.{List};
-ghost use Prim.Native.Nat.{ℕ, min, _+_, _-_, _*_, _/_, _<_, _≤_};
+ghost use Prim.Native.Nat.{ℕ, _+_, _-_, _*_, _/_, _<_, _≤_};
 ghost use Rattle.format.specs.Variant.{file-variant};
 ghost use Rattle.format.specs.Layout.{Fixed, Arrays, sum, header-end};
 ghost use Rattle.format.proofs.RefusalsByIndexRecords.{bad-type, wrong-offset, starts-of};

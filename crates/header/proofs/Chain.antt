@@ -16,7 +16,7 @@ use Rattle.format.specs.Base.{pick, ok, refuse}
 use Rattle.format.specs.Variant.{file-variant, block-of, in-block}
 use Rattle.format.specs.Layout.{Fixed, plain-mode, form-of, Arrays, sum, block-count, block-size, header-end}
 use Rattle.format.specs.Header.{block-place, type-place}
-use Rattle.format.specs.Reply.{summary, header-left}
+use Rattle.format.specs.Reply.{Summary, summary, header-left}
 use Rattle.format.proofs.BlocksLaws.{block-count-is}
 use Rattle.format.proofs.ByIndex.{block-variants}
 use Rattle.format.proofs.RefusalsByIndex.{fixed-at, after-fixed}
@@ -30,7 +30,10 @@ use Rattle.blocks.specs.Parts.{fixed, blocks-of, form-in, BlocksSmall, count-in
 use Rattle.columns.specs.declared.Ends.{Ends}
 use Rattle.columns.specs.declared.Ends.the-variants.{WrongOffset, RecordsEnd}
 use Rattle.columns.specs.Ending.{ending}
-use Rattle.header.specs.Ready.{Held, Cleared}
+use Rattle.header.specs.Ready.{Held, Placed}
+use Rattle.header.specs.declared.Found.{Found}
+use Rattle.header.specs.declared.Found.the-variants.{Nothing, Refusal}
+use Rattle.header.specs.Finding.{earlier-of, found-then, UnusedFound}
 use Rattle.header.proofs.Handed.{Ranges, ranges, refused, seven, beyond-7, nine-end, accepts}
 use Rattle.header.proofs.BlockedLaws.{blocks-fit, last-unused}
 
@@ -56,38 +59,39 @@ whole-place b v block i h d k f e =
 
 -- ---- 7
 
-module _ (bs : List ℕ) (f : Fields) (b : Blocks) (end : ℕ) (h : Held bs f end) (blocked : plain-mode (fixed f) ≡ false) (e : b ≡ blocks-of (fixed f)) (small : BlocksSmall b) where
+pub placed : (bs : List ℕ) (f : Fields) (b : Blocks) (end : ℕ) → Held bs f end → plain-mode (fixed f) ≡ false → b ≡ blocks-of (fixed f) → BlocksSmall b → Placed bs f b end
+placed bs f b end h p e s = record { held = h; blocked = p; b-is = e; small = s }
+
+module _ (bs : List ℕ) (f : Fields) (b : Blocks) (end : ℕ) (c : Placed bs f b end) where
   pub fit : BlocksFit bs (f .variants) b
   fit =
-      let r : Ranges f = ranges bs f (h .ready) in
-      blocks-fit (fixed f) blocked (r .variants-least) (r .variants-most) bs b e small (rw (← h .end-is) (h .fits))
+      let r : Ranges f = ranges bs f (c .held .ready) in
+      blocks-fit (fixed f) (c .blocked) (r .variants-least) (r .variants-most) bs b (c .b-is) (c .small) (rw (← c .held .end-is) (c .held .fits))
 
   -- the last block's arrays among them
   pub last-fits : (n : ℕ) → n ≡ count-in (f .variants) ((f .variants - 1) / 65536)
       → b .at + (f .variants - 1) / 65536 * b .full + block-size (form-in b) n ≤ length bs
-  last-fits n d = rw d (fit .each ((f .variants - 1) / 65536) (omega (arith, ranges bs f (h .ready) .variants-least)))
+  last-fits n d = rw d (fit .each ((f .variants - 1) / 65536) (omega (arith, ranges bs f (c .held .ready) .variants-least)))
 
   -- what a look at the last block says of all
-  pub all-unused : (n : ℕ) (r : Unused) → n ≡ count-in (f .variants) ((f .variants - 1) / 65536)
-      → unused-out r ≡ need-unused (form-in b) (b .at + (f .variants - 1) / 65536 * b .full) n bs (ok tt []) → unused-arrays 65536 (fixed f) bs ≡ unused-out r
-  unfolding block-variants
-  all-unused n r d u =
-      let g : Ranges f = ranges bs f (h .ready) in
-      last-unused (fixed f) bs blocked (g .variants-least) (g .variants-most) (h .ready .bytes) (rw (← h .end-is) (h .fits))
-      ∙ sym (rw (d, e, place-from (fixed f) ((f .variants - 1) / 65536)) at u)
+  module _ (n : ℕ) (r : Unused) (d : n ≡ count-in (f .variants) ((f .variants - 1) / 65536))
+      (u : unused-out r ≡ need-unused (form-in b) (b .at + (f .variants - 1) / 65536 * b .full) n bs (ok tt [])) where
+    all-unused : unused-out r ≡ unused-arrays 65536 (fixed f) bs
+    unfolding block-variants
+    all-unused =
+        let g : Ranges f = ranges bs f (c .held .ready) in
+        rw (d, c .b-is, place-from (fixed f) ((f .variants - 1) / 65536)) at u
+        ∙ sym (last-unused (fixed f) bs (c .blocked) (g .variants-least) (g .variants-most) (c .held .ready .bytes) (rw (← c .held .end-is) (c .held .fits)))
 
-  pub clears : (r : Unused) → unused-arrays 65536 (fixed f) bs ≡ unused-out r → r ≡ Clear → Cleared bs f b end
-  clears r u q = record { held = h; blocked = blocked; b-is = e; small = small; clear = rw q at u }
+    pub clears : r ≡ Clear → UnusedFound bs f Nothing
+    clears q = record { same = rw q at all-unused; seven = tt }
 
-  pub unclear : (r : Unused) (place : ℕ) → unused-arrays 65536 (fixed f) bs ≡ unused-out r → r ≡ At place → header-left (Refused 7 place) ≡ summary (after-fixed 65536 bs)
-  unclear r place u q = seven bs f end h place (rw q at u)
+    pub unclear : (place : ℕ) → r ≡ At place → UnusedFound bs f (Refusal 7 place)
+    unclear place q = record { same = rw q at all-unused; seven = refl }
 
 -- ---- 8
 
-module _ (bs : List ℕ) (f : Fields) (b : Blocks) (end : ℕ) (c : Cleared bs f b end) where
-  pub parts : (a : Arrays) × Passed 65536 bs a
-  parts = beyond-7 bs f end (c .held) (c .clear)
-
+module _ (bs : List ℕ) (f : Fields) (b : Blocks) (end : ℕ) (c : Placed bs f b end) where
   pub arranged : (a : Arrays) → Passed 65536 bs a → Arranged bs (f .variants) b (fixed-at bs) a (drop (header-end 65536 (fixed-at bs)) bs)
   arranged a p = record {
     parts = p .parts;
@@ -99,21 +103,20 @@ module _ (bs : List ℕ) (f : Fields) (b : Blocks) (end : ℕ) (c : Cleared bs f
   count : fixed-at bs .variants ≡ f .variants
   count = ap (λ (z : Fixed). z .variants) (c .held .ready .same)
 
-  module _ (v : FileVariant) (k : (f₁ : Fixed) (a : Arrays) (records : List ℕ) → Arranged bs (f .variants) b f₁ a records → v ≡ bad-type 65536 (file-variant 0) (a .columns .types)) where
-    decided : after-fixed 65536 bs ≡ pick (ltb (v .0) (fixed-at bs .variants)) (refuse 8 (type-place 65536 (fixed-at bs) v)) (after-types 65536 bs (parts .0))
+  module _ (v : FileVariant) (k : (f₁ : Fixed) (a : Arrays) (records : List ℕ) → Arranged bs (f .variants) b f₁ a records → v ≡ bad-type 65536 (file-variant 0) (a .columns .types))
+      (a : Arrays) (p : Passed 65536 bs a) where
+    decided : after-fixed 65536 bs ≡ pick (ltb (v .0) (fixed-at bs .variants)) (refuse 8 (type-place 65536 (fixed-at bs) v)) (after-types 65536 bs a)
     decided =
-        let a : Arrays = parts .0 in
-        let w : v ≡ bad-type 65536 (file-variant 0) (a .columns .types) = k (fixed-at bs) a _ (arranged a (parts .1)) in
-        rw (← w) at (refusal-8 65536 bs a (parts .1))
+        let w : v ≡ bad-type 65536 (file-variant 0) (a .columns .types) = k (fixed-at bs) a _ (arranged a p) in
+        rw (← w) at (refusal-8 65536 bs a p)
 
-    pub bad-8 : (place : ℕ) → ((f₁ : Fixed) → b ≡ blocks-of f₁ → place ≡ type-place 65536 f₁ v) → v .0 < f .variants
-        → header-left (Refused 8 place) ≡ summary (after-fixed 65536 bs)
+    pub bad-8 : (place : ℕ) → ((f₁ : Fixed) → b ≡ blocks-of f₁ → place ≡ type-place 65536 f₁ v) → v .0 < f .variants → refuse 8 place ≡ after-fixed 65536 bs
     bad-8 place q l =
         let d : place ≡ type-place 65536 (fixed-at bs) v = q (fixed-at bs) (c .b-is ∙ ap blocks-of (sym (c .held .ready .same))) in
-        refused 8 place (after-fixed 65536 bs) (decided ∙ simp (lt-ltb (v .0) (fixed-at bs .variants) (omega (arith, count))) (ap (refuse 8) (sym d)))
+        sym (decided ∙ simp (lt-ltb (v .0) (fixed-at bs .variants) (omega (arith, count))) (ap (refuse 8) (sym d)))
 
-    pub beyond-8 : f .variants ≤ v .0 → after-fixed 65536 bs ≡ after-types 65536 bs (parts .0)
-    beyond-8 l = decided ∙ simp (le-ltb (v .0) (fixed-at bs .variants) (omega (arith, count)))
+    pub beyond-8 : f .variants ≤ v .0 → after-types 65536 bs a ≡ after-fixed 65536 bs
+    beyond-8 l = sym (decided ∙ simp (le-ltb (v .0) (fixed-at bs .variants) (omega (arith, count))))
 
 -- ---- 9
 
@@ -136,7 +139,7 @@ abbrev pub EndsAre : List ℕ → Fields → Blocks → ℕ → Ends → Type 0
 EndsAre bs f b end r = (f₁ : Fixed) (a : Arrays) (records : List ℕ) → Arranged bs (f .variants) b f₁ a records → end ≡ header-end 65536 f₁
     → r ≡ ending (wrong-offset 0 (a .offsets) (starts-of 65536 f₁ a)) ((f .variants + 65535) / 65536) (end + sum (a .columns .lengths))
 
-module _ (bs : List ℕ) (f : Fields) (b : Blocks) (end : ℕ) (c : Cleared bs f b end) (r : Ends) (k : EndsAre bs f b end r) where
+module _ (bs : List ℕ) (f : Fields) (b : Blocks) (end : ℕ) (c : Placed bs f b end) (r : Ends) (k : EndsAre bs f b end r) where
   ending-is : (a : Arrays) → Passed 65536 bs a
       → r ≡ ending (wrong-offset 0 (a .offsets) (starts-of 65536 (fixed-at bs) a)) ((f .variants + 65535) / 65536) (end + sum (a .columns .lengths))
   ending-is a p = k (fixed-at bs) a _ (arranged bs f b end c a p) (c .held .end-is ∙ ap (header-end 65536) (sym (c .held .ready .same)))
@@ -146,10 +149,11 @@ module _ (bs : List ℕ) (f : Fields) (b : Blocks) (end : ℕ) (c : Cleared bs f
       ap (block-count 65536) (c .held .ready .same) ∙ block-count-is 65536 (fixed f) (c .blocked)
 
   -- a wrong offset has a place
-  pub few-blocks : (j : ℕ) → r ≡ WrongOffset j → j ≤ 256
-  few-blocks j q =
-      let a : Arrays = parts bs f b end c .0 in
-      let w = wrong-found j (wrong-offset 0 (a .offsets) (starts-of 65536 (fixed-at bs) a)) ((f .variants + 65535) / 65536) (end + sum (a .columns .lengths)) (sym q ∙ ending-is a (parts bs f b end c .1)) in
+  pub few-blocks : unused-arrays 65536 (fixed f) bs ≡ ok tt [] → (j : ℕ) → r ≡ WrongOffset j → j ≤ 256
+  few-blocks u j q =
+      let g = beyond-7 bs f end (c .held) u in
+      let a : Arrays = g .0 in
+      let w = wrong-found j (wrong-offset 0 (a .offsets) (starts-of 65536 (fixed-at bs) a)) ((f .variants + 65535) / 65536) (end + sum (a .columns .lengths)) (sym q ∙ ending-is a (g .1)) in
       omega (arith, w .0, w .1, ranges bs f (c .held .ready) .variants-most)
 
   pub nine-offset : (j : ℕ) → r ≡ WrongOffset j → (a : Arrays) → Passed 65536 bs a → header-left (Refused 9 (12 + 8 * j)) ≡ summary (after-types 65536 bs a)
@@ -175,3 +179,38 @@ module _ (bs : List ℕ) (f : Fields) (b : Blocks) (end : ℕ) (c : Cleared bs f
 
     pub accepted-last : x ≡ length bs → header-left (Accepted (f .mode) (f .variants) (f .samples) (f .form)) ≡ summary (after-types 65536 bs a)
     accepted-last n = accepts bs f end (c .held) a p (after-types 65536 bs a) beyond-9 (sym total ∙ n)
+
+-- ---- 7, then 8, then 9
+
+module _ (bs : List ℕ) (f : Fields) (b : Blocks) (end : ℕ) (c : Placed bs f b end) (unused bad : Found) (u : UnusedFound bs f unused)
+    (k : (a : Arrays) → Passed 65536 bs a → found-then bad (after-types 65536 bs a) ≡ after-fixed 65536 bs) where
+  -- one of the first two
+  pub one-refused : (r : Found) (number place : ℕ) → r ≡ earlier-of unused bad → r ≡ Refusal number place → header-left (Refused number place) ≡ summary (after-fixed 65536 bs)
+  one-refused r number place e q = go unused u (sym q ∙ e)
+    where
+      go : (s : Found) → UnusedFound bs f s → Refusal number place ≡ earlier-of s bad → header-left (Refused number place) ≡ summary (after-fixed 65536 bs)
+      go (Refusal n p) w e =
+          let a : number ≡ n = cc in
+          let d : place ≡ p = cc in
+          rw (a, d, w .seven) (seven bs f end (c .held) p (sym (w .same) ∙ rw (w .seven) refl))
+      go Nothing w e =
+          let g = beyond-7 bs f end (c .held) (sym (w .same)) in
+          refused number place (after-fixed 65536 bs) (sym (k (g .0) (g .1)) ∙ rw (← e) refl)
+
+  -- neither
+  module _ (r : Found) (e : r ≡ earlier-of unused bad) (q : r ≡ Nothing) where
+    both-clear : (unused ≡ Nothing) × (bad ≡ Nothing)
+    both-clear = go unused (sym q ∙ e)
+      where
+        go : (s : Found) → Nothing ≡ earlier-of s bad → (s ≡ Nothing) × (bad ≡ Nothing)
+        go (Refusal n p) e = absurd (let z : _≡_ {A = ℕ} 0 1 = cc in omega arith)
+        go Nothing e = (refl, sym e)
+
+    pub cleared : unused-arrays 65536 (fixed f) bs ≡ ok tt []
+    cleared = sym (ap (λ (z : Found). found-then z (ok tt [])) (sym (both-clear .0)) ∙ u .same)
+
+    parts : (a : Arrays) × Passed 65536 bs a
+    parts = beyond-7 bs f end (c .held) cleared
+
+    pub neither : (m : Summary) → ((a : Arrays) → Passed 65536 bs a → m ≡ summary (after-types 65536 bs a)) → m ≡ summary (after-fixed 65536 bs)
+    neither m s = s (parts .0) (parts .1) ∙ ap summary (ap (λ (z : Found). found-then z (after-types 65536 bs (parts .0))) (sym (both-clear .1)) ∙ k (parts .0) (parts .1))

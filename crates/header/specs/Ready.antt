@@ -3,12 +3,11 @@
 use mathlib.Core.Path.{_≡_}
 use Prim.Native.Nat.{ℕ, _≤_}
 use mathlib.Core.Bool.{false}
-use mathlib.Core.List.{List, []}
+use mathlib.Core.List.{List}
 use lib.ListN.{length}
-use Rattle.format.specs.Base.{Bytes, ok}
+use Rattle.format.specs.Base.{Bytes}
 use Rattle.format.specs.Layout.{plain-mode, header-end, FixedObeys}
 use Rattle.format.proofs.RefusalsByIndex.{fixed-at}
-use Rattle.format.proofs.RefusalsByIndexArrays.{unused-arrays}
 use Rattle.blocks.specs.declared.Fields.{Fields}
 use Rattle.blocks.specs.declared.Blocks.{Blocks}
 use Rattle.blocks.specs.Parts.{fixed, blocks-of, BlocksSmall}
@@ -27,10 +26,9 @@ pub record Held (bs : List ℕ) (f : Fields) (end : ℕ) : Type 0 where
   pub fits : end ≤ length bs
   pub small : end ≤ 134217728
 
--- 7 has passed in mode 0x10, and these are the places of its arrays
-pub record Cleared (bs : List ℕ) (f : Fields) (b : Blocks) (end : ℕ) : Type 0 where
+-- the same in mode 0x10, and these are the places of the arrays
+pub record Placed (bs : List ℕ) (f : Fields) (b : Blocks) (end : ℕ) : Type 0 where
   pub held : Held bs f end
   pub blocked : plain-mode (fixed f) ≡ false
   pub b-is : b ≡ blocks-of (fixed f)
   pub small : BlocksSmall b
-  pub clear : unused-arrays 65536 (fixed f) bs ≡ ok tt []

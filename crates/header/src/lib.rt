@@ -1,15 +1,18 @@
 // The header check: refusals 1 to 9 in their order, each at its place.
 ghost use mathlib.Core.Path.{_≡_};
+ghost use mathlib.Core.List.{[]};
 ghost use Prim.Native.Nat.{_≤_, _<_};
+ghost use Rattle.format.specs.Base.{ok};
 ghost use lib.ListN.{length};
 ghost use Rattle.format.specs.Header.{type-place};
 ghost use Rattle.format.specs.Layout.{Fixed, Arrays, mode-covered, from-1-to, form-allowed};
 ghost use Rattle.format.specs.Reply.{summary, header-left, header-call};
-ghost use Rattle.format.proofs.RefusalsByIndex.{after-fixed};
-ghost use Rattle.format.proofs.RefusalsByIndexArrays.{Passed};
+ghost use Rattle.format.proofs.RefusalsByIndex.{fixed-at, after-fixed};
+ghost use Rattle.format.proofs.RefusalsByIndexArrays.{unused-arrays, Passed};
 ghost use Rattle.format.proofs.RefusalsByIndexRecords.{after-types};
-ghost use Rattle.blocks.specs.Parts.{blocks-of, BlocksSmall};
-ghost use Rattle.header.specs.Ready.{Ready, Held, Cleared};
+ghost use Rattle.blocks.specs.Parts.{fixed, fields-of, blocks-of, BlocksSmall};
+ghost use Rattle.header.specs.Ready.{Ready, Held, Placed};
+ghost use Rattle.header.specs.Finding.{earlier-of, found-then, UnusedFound};
 use blocks::Blocks;
 use blocks::Fields;
 use blocks::Unused;
@@ -99,7 +102,7 @@ fn type_place(b: Blocks, v: FileVariant) -> usize
 
 // 9, "block offset wrong, or records don't end at the file's end", in mode 0x10.
 fn check_ends(file: &[u8], f: Fields, b: Blocks, end: usize) -> HeaderReply
-    requires { ⌜ Cleared (now file) f b end ⌝ }
+    requires { ⌜ Placed (now file) f b end × (unused-arrays 65536 (fixed f) (now file) ≡ ok tt []) ⌝ }
     ensures { λ r. ⌜ ((a : Arrays) → Passed 65536 (now (file .entry)) a → header-left r ≡ summary (after-types 65536 (now (file .entry)) a)) ⌝ }
 {
     match records_end(file, f.variants, b, end) {
@@ -124,31 +127,60 @@ fn check_ends(file: &[u8], f: Fields, b: Blocks, end: usize) -> HeaderReply
     }
 }
 
-// 8, "type not allowed", then 9.
-fn check_types(file: &[u8], f: Fields, b: Blocks, end: usize) -> HeaderReply
-    requires { ⌜ Cleared (now file) f b end ⌝ }
-    ensures { λ r. ⌜ header-left r ≡ summary (after-fixed 65536 (now (file .entry))) ⌝ }
+// What a rule finds: nothing, or a refusal.
+pub enum Found {
+    Nothing,
+    Refusal { number: u8, place: usize },
+}
+
+// The refusal that comes first in the order.
+fn earlier(first: Found, second: Found) -> Found
+    ensures { λ r. ⌜ r ≡ earlier-of first second ⌝ }
+{
+    match first {
+        Found::Refusal { number, place } => Found::Refusal { number, place },
+        Found::Nothing => second,
+    }
+}
+
+// 7, "unused header bits set". Every block but the last is full, and the arrays of a full block fill their bytes.
+fn unused_bits(file: &[u8], f: Fields, b: Blocks, end: usize) -> Found
+    requires { ⌜ Placed (now file) f b end ⌝ }
+    ensures { λ r. ⌜ UnusedFound (now (file .entry)) f r ⌝ }
+{
+    let last = (f.variants - 1) / 65536;
+    match unused_in(file, b.at + last * b.full, count_in(f.variants, last), b) {
+        Unused::At(place) => Found::Refusal { number: 7, place },
+        Unused::Clear => Found::Nothing,
+    }
+}
+
+// 8, "type not allowed".
+fn bad_types(file: &[u8], f: Fields, b: Blocks, end: usize) -> Found
+    requires { ⌜ Placed (now file) f b end ⌝ }
+    ensures { λ r. ⌜ ((a : Arrays) → Passed 65536 (now (file .entry)) a → found-then r (after-types 65536 (now (file .entry)) a) ≡ after-fixed 65536 (now (file .entry))) ⌝ }
 {
     let v = bad_type(file, f.variants, b);
     if v.0 < f.variants {
-        return HeaderReply::Refused {
+        return Found::Refusal {
             number: 8,
             place: type_place(b, v),
         };
     }
-    check_ends(file, f, b, end)
+    Found::Nothing
 }
 
-// 7, "unused header bits set", then 8 and 9, in mode 0x10. Every block but the last is full, and the arrays of a full block fill their bytes.
+// 7, then 8, then 9, in mode 0x10.
 fn check_blocked(file: &[u8], f: Fields, end: usize) -> HeaderReply
     requires { ⌜ Held (now file) f end × (f .mode ≡ 0x02 → ⊥) ⌝ }
     ensures { λ r. ⌜ header-left r ≡ summary (after-fixed 65536 (now (file .entry))) ⌝ }
 {
     let b = blocks_of(f);
-    let last = (f.variants - 1) / 65536;
-    match unused_in(file, b.at + last * b.full, count_in(f.variants, last), b) {
-        Unused::At(place) => HeaderReply::Refused { number: 7, place },
-        Unused::Clear => check_types(file, f, b, end),
+    let unused = unused_bits(file, f, b, end);
+    let bad = bad_types(file, f, b, end);
+    match earlier(unused, bad) {
+        Found::Refusal { number, place } => HeaderReply::Refused { number, place },
+        Found::Nothing => check_ends(file, f, b, end),
     }
 }
 
@@ -170,24 +202,11 @@ fn check_arrays(file: &[u8], f: Fields) -> HeaderReply
     check_blocked(file, f, end)
 }
 
-// 01, Replies: "1 to 11 by number, the lowest place first within a number". 1, "file under 12 bytes"; 2, "magic wrong"; 3, "mode not covered";
-// 4, "M or N outside its range", "M first"; 5, "form not allowed"; then 6 to 9.
-pub fn check(file: &[u8]) -> HeaderReply
+// 3, "mode not covered"; 4, "M or N outside its range", "M first"; 5, "form not allowed"; then 6 to 9.
+fn check_fields(file: &[u8], f: Fields) -> HeaderReply
+    requires { ⌜ (12 ≤ length (now file)) × (fixed-at (now file) .magic ≡ 0x1b6c) × (f ≡ fields-of (fixed-at (now file))) ⌝ }
     ensures { λ r. ⌜ header-left r ≡ header-call 65536 (now (file .entry)) ⌝ }
 {
-    if file.len() < 12 {
-        return HeaderReply::Refused {
-            number: 1,
-            place: file.len(),
-        };
-    }
-    if number_at(file, 0, 2) != 0x1b6c {
-        return HeaderReply::Refused {
-            number: 2,
-            place: 0,
-        };
-    }
-    let f = fields_at(file);
     if !mode_covered(f.mode) {
         return HeaderReply::Refused {
             number: 3,
@@ -213,4 +232,23 @@ pub fn check(file: &[u8]) -> HeaderReply
         };
     }
     check_arrays(file, f)
+}
+
+// 01, Replies: "1 to 11 by number, the lowest place first within a number". 1, "file under 12 bytes"; 2, "magic wrong"; then 3 to 9.
+pub fn check(file: &[u8]) -> HeaderReply
+    ensures { λ r. ⌜ header-left r ≡ header-call 65536 (now (file .entry)) ⌝ }
+{
+    if file.len() < 12 {
+        return HeaderReply::Refused {
+            number: 1,
+            place: file.len(),
+        };
+    }
+    if number_at(file, 0, 2) != 0x1b6c {
+        return HeaderReply::Refused {
+            number: 2,
+            place: 0,
+        };
+    }
+    check_fields(file, fields_at(file))
 }

@@ -1,6 +1,6 @@
 // Numbers of a header by index, and sums of lengths, each read from the file's bytes as the format's definitions say.
 ghost use mathlib.Core.Path.{_≡_};
-ghost use Prim.Native.Nat.{ℕ, suc, _+_, _*_, _^_, _<_, _≤_};
+ghost use Prim.Native.Nat.{_+_, _*_, _^_, _<_, _≤_};
 ghost use lib.ListN.{length, drop};
 ghost use Rattle.format.specs.Layout.{sum};
 ghost use Rattle.format.proofs.ByIndex.{number-at, numbers-at};

@@ -1,2 +1,6 @@
 pub mod ViewLaws
+pub mod WorkLaws
+pub mod CheckLaws
+pub mod ReadLaws
+pub mod FlipLaws
 pub mod Unique

@@ -1,18 +1,18 @@
 -- What a view replies, by what the header check found.
 -- Assumes nothing.
-use mathlib.Core.Path.{_≡_, refl, sym, ap, _∙_}
+use mathlib.Core.Path.{_≡_}
 use Prim.Native.Nat.{ℕ, _-_, _≤_, _<_}
 use mathlib.Core.List.{List, []}
-use lib.ListN.{length, take, drop, getD}
+use lib.ListN.{length, take, drop}
 use native.Mathlib.Omega.{arith}
 use borrow.Author.Tests.{lt-ltb, le-ltb}
 use Rattle.format.specs.declared.FileVariant.{FileVariant}
 use Rattle.format.specs.declared.HeaderReply.{HeaderReply}
 use Rattle.format.specs.declared.HeaderReply.the-variants.{Accepted, Refused}
-use Rattle.format.specs.Base.{Bytes, Out, ok, refuse}
+use Rattle.format.specs.Base.{Bytes, ok}
 use Rattle.format.specs.Layout.{Layout}
 use Rattle.format.specs.Header.{read-layout}
-use Rattle.format.specs.Reply.{View, header-left, header-call, view-call}
+use Rattle.format.specs.Reply.{header-left, header-call, view-call}
 use Rattle.places.specs.declared.Place.{Place}
 use Rattle.places.specs.Located.{HasVariant, HasLayout, place-in}
 use Rattle.places.proofs.FromReply.{reply-accepted, reply-refused, has-variant, part-rises, part-inside, part-is}

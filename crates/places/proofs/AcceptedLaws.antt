@@ -1,24 +1,23 @@
 -- What is known of a variant of a file that the header check accepts.
 -- Assumes nothing.
 use mathlib.Core.Path.{_≡_, refl, sym, ap, _∙_}
-use Prim.Native.Nat.{ℕ, zero, suc, _+_, _-_, _*_, _/_, _≤_, _<_}
+use Prim.Native.Nat.{ℕ, _+_, _*_, _/_, _≤_, _<_}
 use native.Mathlib.Nat.{mul-le-mul, suc-mul}
-use mathlib.Core.Bool.{Bool, true, false}
+use mathlib.Core.Bool.{true}
 use mathlib.Core.List.{List, []}
 use lib.ListN.{length, getD}
-use lib.Dec.{eqb, lit<}
+use lib.Dec.{lit<}
 use native.Mathlib.Omega.{arith}
 use borrow.Author.Tests.{eq-eqb}
 use Rattle.format.specs.declared.FileVariant.{FileVariant}
-use Rattle.format.specs.Base.{Bytes, Out, ok, refuse}
+use Rattle.format.specs.Base.{Bytes, ok, refuse}
 use Rattle.format.specs.Variant.{next-variant}
-use Rattle.format.specs.Layout.{Fixed, most-samples, most-variants, plain-mode, sum, header-end, Layout, fixed-of, layout-bytes, record-start, plain-size, LayoutObeys}
+use Rattle.format.specs.Layout.{Fixed, most-samples, most-variants, plain-mode, header-end, Layout, fixed-of, layout-bytes, record-start, plain-size, LayoutObeys}
 use Rattle.format.specs.Header.{read-layout}
-use Rattle.format.specs.File.{type-of}
 use Rattle.format.proofs.Rules.{split}
-use Rattle.format.proofs.OffsetsLaws.{from-1-to-most, from-1-to-positive}
+use Rattle.format.proofs.OffsetsLaws.{from-1-to-most}
 use Rattle.format.proofs.HeaderLaws.{header-exactly}
-use Rattle.format.proofs.StartLaws.{plain-start, plain-type, plain-length, body-length-at, record-end, record-inside}
+use Rattle.format.proofs.StartLaws.{plain-start, plain-type, plain-length, body-length-at, record-inside}
 use Rattle.format.proofs.RefusalsByIndex.{fixed-at, refusal-1, fixed-at-layout}
 use Rattle.blocks.specs.declared.Fields.{Fields}
 use Rattle.blocks.specs.Parts.{fixed, fields-of}

@@ -1,17 +1,15 @@
 -- What a caller of the header check learns from its reply.
 -- Assumes nothing.
 use mathlib.Core.Path.{_≡_, refl, sym, ap, _∙_}
-use Prim.Native.Nat.{ℕ, zero, suc, _+_, _-_, _≤_, _<_}
+use Prim.Native.Nat.{ℕ, _+_, _-_, _≤_, _<_}
 use mathlib.Core.List.{List, []}
 use lib.ListN.{length, take, drop, getD}
 use lib.Dec.{lit<}
 use native.Mathlib.Omega.{arith}
 use Rattle.format.specs.declared.FileVariant.{FileVariant}
-use Rattle.format.specs.declared.HeaderReply.{HeaderReply}
 use Rattle.format.specs.declared.HeaderReply.the-variants.{Accepted, Refused}
 use Rattle.format.specs.Base.{Bytes, Out, ok, refuse}
-use Rattle.format.specs.Variant.{next-variant}
-use Rattle.format.specs.Layout.{most-variants, Layout, body-lengths, layout-bytes, record-start}
+use Rattle.format.specs.Layout.{most-variants, Layout, body-lengths, record-start}
 use Rattle.format.specs.Header.{read-layout}
 use Rattle.format.specs.Reply.{Summary, summary, header-left, header-call}
 use Rattle.format.proofs.Rules.{Holds}

@@ -1,7 +1,7 @@
 -- A variant of an accepted file in mode 0x10: the place and the type of its record, by what code reads.
 -- Assumes nothing.
-use mathlib.Core.Path.{_≡_, refl, sym, ap, _∙_}
-use Prim.Native.Nat.{ℕ, zero, suc, min, _+_, _-_, _*_, _/_, _%_, _^_, _≤_, _<_}
+use mathlib.Core.Path.{_≡_, refl, ap, _∙_}
+use Prim.Native.Nat.{ℕ, zero, suc, _+_, _*_, _/_, _≤_, _<_}
 use native.Mathlib.Nat.{div-one, mul-le-mul-left, mul-suc}
 use mathlib.Core.Bool.{Bool, true, false}
 use mathlib.Core.List.{List, []}
@@ -12,11 +12,11 @@ use native.Mathlib.Omega.{arith}
 use Rattle.format.specs.declared.FileVariant.{FileVariant}
 use Rattle.format.specs.declared.BlockVariant.{BlockVariant}
 use Rattle.format.specs.Base.{pick, Bytes, ok}
-use Rattle.format.specs.Packed.{four, eight, limit, more, packed-size}
+use Rattle.format.specs.Packed.{four, eight, more, packed-size}
 use Rattle.format.specs.Track.{leans}
 use Rattle.format.specs.Variant.{next-variant, block-of, in-block, in-file, nearest, anchor}
-use Rattle.format.specs.Layout.{Fixed, plain-mode, form-of, sum, header-end, Layout, fixed-of, arrays-of, joined, layout-bytes, record-start}
-use Rattle.format.specs.Header.{read-layout, block-place, type-place}
+use Rattle.format.specs.Layout.{plain-mode, form-of, sum, Layout, fixed-of, arrays-of, joined, layout-bytes, record-start}
+use Rattle.format.specs.Header.{read-layout, type-place}
 use Rattle.format.specs.File.{type-of}
 use Rattle.format.proofs.ByIndex.{number-at, numbers-at, digit-at, digits-at, lengths-place, offset-at, type-at, length-at, start-at}
 use Rattle.format.proofs.Rules.{by-test, never-both}

@@ -102,8 +102,8 @@ module _ (bs : List ℕ) (y : Bytes bs) (l : Layout) (a : read-layout 65536 bs �
                 reached = omega arith;
                 start-is = ap (λ (z : Place). z .end) its-place;
                 left-is = ap (λ (z : List ℕ). left-to-check 65536 l (suc v) (take (l .samples) z)) (ap row-of t)
-                ∙ ap (left-to-check 65536 l (suc v)) (carried .0)
-                ∙ sym (turn ∙ ap (then-check 65536 l v (take (l .samples) row)) n) ∙ w .left-is;
+                    ∙ ap (left-to-check 65536 l (suc v)) (carried .0)
+                    ∙ sym (turn ∙ ap (then-check 65536 l v (take (l .samples) row)) n) ∙ w .left-is;
                 rest-is = ap (λ (z : List ℕ). drop (l .samples) z) (ap row-of t) ∙ carried .1 ∙ w .rest-is;
               }
 

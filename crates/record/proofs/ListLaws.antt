@@ -1,14 +1,13 @@
 -- A list applied to a row whose first n bytes are known: kinds 1, 4, 6 and 7.
 -- Assumes nothing.
-use mathlib.Core.Path.{_≡_, refl, sym, ap, _∙_}
-use Prim.Native.Nat.{ℕ, zero, suc, _+_, _-_, _≤_, _<_}
+use mathlib.Core.Path.{_≡_, refl, _∙_}
+use Prim.Native.Nat.{ℕ, _≤_, _<_}
 use native.Mathlib.Omega.{arith}
-use mathlib.Core.Bool.{Bool, true, false, not}
-use mathlib.Core.List.{List, [], _∷_, _++_, map}
+use mathlib.Core.Bool.{true, false}
+use mathlib.Core.List.{List, _++_, map}
 use lib.ListN.{getD, length, take, drop, replicate, length-map, length-replicate, getD-replicate}
 use lib.Seq.{take-at}
-use lib.Dec.{eqb}
-use Rattle.format.specs.Base.{pick, Out, ok, refuse, bind, map-out}
+use Rattle.format.specs.Base.{Out, ok, refuse, bind, map-out}
 use Rattle.format.specs.Packed.{one, read-packed}
 use Rattle.format.specs.Difflist.{Entry, number-width, read-list}
 use Rattle.format.specs.Track.{against-category, sparse, rule, off-anchor, off-category, apply, read-listed, read-kind, track-categories}
@@ -21,7 +20,7 @@ use Rattle.difflist.specs.Entries.{Outcome, out}
 use Rattle.difflist.specs.Listed.{may-hold, replied, listed}
 use Rattle.difflist.specs.declared.ListRule.{ListRule}
 use Rattle.difflist.specs.declared.ListRule.the-variants.{OffPair, OffRow}
-use Rattle.difflist.specs.declared.ListStep.the-variants.{Listed, Refused}
+use Rattle.difflist.specs.declared.ListStep.the-variants.{Refused}
 use Rattle.record.specs.Rows.{wiped, stored, kind-categories, off-both, pair-categories}
 use Rattle.record.proofs.RuleLaws.{list-same}
 use Rattle.record.proofs.RowLaws.{rest-of, zero-rest}
@@ -54,8 +53,10 @@ module _ (l : List ℕ) (start n category : ℕ) (row mid : List ℕ) (filled : 
   sparse-stored o e =
       let t : take n mid ≡ replicate n category = rw filled (take-at (replicate n category) (drop n row) n (length-replicate n category)) in
       let d : drop n mid ≡ drop n row = rw filled (rest-of n (replicate n category) row (length-replicate n category)) in
-      rw (sparse-through (read-list (rule n (off-category category)) (number-width n) (length l) (drop start l)),
-      ← list-same n (off-anchor (replicate n category)) (off-category category) off-filled (number-width n) (length l) (drop start l))
+      rw (
+        sparse-through (read-list (rule n (off-category category)) (number-width n) (length l) (drop start l)),
+        ← list-same n (off-anchor (replicate n category)) (off-category category) off-filled (number-width n) (length l) (drop start l),
+      )
       (list-stored l start n OffRow row mid (replicate n category) t d o e)
 
 -- ---- kind 1, after its pair code

@@ -1,12 +1,12 @@
 -- A track of kind 1: its pair code, then its bits and its list.
 -- Assumes nothing.
-use mathlib.Core.Path.{_≡_, refl, sym, ap, _∙_}
-use Prim.Native.Nat.{ℕ, zero, suc, _+_, _-_, _≤_, _<_}
+use mathlib.Core.Path.{_≡_, refl, _∙_}
+use Prim.Native.Nat.{ℕ, suc, _+_, _-_}
 use native.Mathlib.Omega.{arith}
 use native.Mathlib.Numerals.{add-one}
-use mathlib.Core.Bool.{Bool, true, false}
-use mathlib.Core.List.{List, [], _∷_, _++_, map, map-map}
-use lib.ListN.{getD, length, take, drop, replicate, length-drop, drop-of-length-le}
+use mathlib.Core.Bool.{false}
+use mathlib.Core.List.{List, _∷_, _++_, map, map-map}
+use lib.ListN.{length, take, drop, replicate, length-drop, drop-of-length-le}
 use lib.Seq.{drop-cons}
 use Rattle.format.specs.Base.{Out, ok, refuse, bind, map-out}
 use Rattle.format.specs.Packed.{one, read-packed}
@@ -14,15 +14,13 @@ use Rattle.format.specs.Difflist.{Entry, number-width, read-list}
 use Rattle.format.specs.PairCode.{PairCode, pair, category-of, Coded, coded, not-coded, code-numbered, as-found, found}
 use Rattle.format.specs.Track.{paired, one-bit, rule, off-pair, apply, bit-set, as-read, read-pair-code, read-listed, read-kind, track-categories}
 use Rattle.format.specs.declared.Pair.{Pair}
-use Rattle.format.specs.declared.PairFound.{PairFound}
 use Rattle.format.specs.declared.PairFound.the-variants.{Known, Unknown}
 use Rattle.cursor.specs.declared.Cursor.{Cursor}
 use Rattle.cursor.proofs.ByteLaws.{ByteRead, ByteRefused}
 use Rattle.packed.specs.Unpacked.{of-pair}
-use Rattle.difflist.specs.Entries.{Outcome, out}
-use Rattle.difflist.specs.declared.ListStep.the-variants.{Listed, Refused}
+use Rattle.difflist.specs.Entries.{out}
+use Rattle.difflist.specs.declared.ListStep.the-variants.{Refused}
 use Rattle.record.specs.Rows.{stored, kind-categories, off-both, pair-categories}
-use Rattle.record.proofs.RuleLaws.{bind-same}
 
 module _ (l : List ℕ) (start n : ℕ) (row : List ℕ) where
   pub no-code : (number place : ℕ) → ByteRefused l start number place

@@ -1,28 +1,28 @@
 -- What each way out of the functions of the code says, from what they were told.
 -- Assumes nothing.
-use mathlib.Core.Path.{_≡_, refl, sym, ap, _∙_}
-use Prim.Native.Nat.{ℕ, zero, suc, _+_, _-_, _≤_, _<_}
+use mathlib.Core.Path.{_≡_, refl, sym, _∙_}
+use Prim.Native.Nat.{ℕ, _≤_}
 use native.Mathlib.Omega.{arith}
-use mathlib.Core.Bool.{Bool, true, false, not, _&&_}
-use mathlib.Core.List.{List, [], _∷_, _++_, map}
-use lib.ListN.{getD, length, take, drop, replicate, length-replicate, take-append-drop}
+use mathlib.Core.Bool.{Bool, true, false, not}
+use mathlib.Core.List.{List, _++_}
+use lib.ListN.{length, take, drop, replicate, length-replicate, take-append-drop}
 use lib.Seq.{take-at, drop-at, length-take-le}
-use Rattle.format.specs.Base.{pick, Out, ok, refuse, bind, map-out}
+use Rattle.format.specs.Base.{Out, ok, refuse, map-out}
 use Rattle.format.specs.Category.{exchange-all}
 use Rattle.format.specs.Packed.{two, read-packed}
 use Rattle.format.specs.Difflist.{Entry, number-width, read-list}
-use Rattle.format.specs.Track.{array, against-anchor, against-category, plain, leaning, sparse, rule, off-anchor, off-category, apply, read-listed, read-kind, track-categories}
-use Rattle.format.proofs.CategoryLaws.{exchange-all-none}
+use Rattle.format.specs.Track.{array, against-anchor, plain, leaning, rule, off-anchor, apply, read-listed, read-kind, track-categories}
+use Rattle.format.proofs.CategoryLaws.{exchange-all-none, exchange-all-length}
 use Rattle.format.proofs.RowLaws.{apply-length}
 use Rattle.packed.specs.Unpacked.{unpacked, unpacked-two, out as unpack}
 use Rattle.packed.specs.declared.PackedStep.the-variants.{Next, Refused as NotPacked}
-use Rattle.difflist.specs.Entries.{Outcome, out}
+use Rattle.difflist.specs.Entries.{out}
 use Rattle.difflist.specs.Listed.{replied, listed}
 use Rattle.difflist.specs.declared.ListStep.{ListStep}
 use Rattle.difflist.specs.declared.ListStep.the-variants.{Listed, Refused}
 use Rattle.difflist.specs.declared.ListRule.the-variants.{OffRow}
-use Rattle.cursor.specs.declared.Cursor.{Cursor}
-use Rattle.record.specs.Rows.{wiped, stored, kind-categories}
+use Rattle.cursor.specs.Steps.{before}
+use Rattle.record.specs.Rows.{wiped, stored, kind-categories, turned}
 
 -- a row whose first part is replaced by as many bytes keeps the rest
 pub rest-of : (n : ℕ) (first row : List ℕ) → length first ≡ n → drop n (first ++ drop n row) ≡ drop n row
@@ -89,45 +89,45 @@ module _ (l : List ℕ) (start n : ℕ) (inverted keep : Bool) (row : List ℕ) 
   unfolding listed
   was-told = told
 
-  pub leaning-refused : (number place : ℕ) → r ≡ Refused number place
-      → out (Refused number place) (replicate n 0 ++ drop n mid) ≡ stored keep (length l) n row (kind-categories n row (against-anchor inverted) l start)
-  leaning-refused number place q = rw leaning-is (through keep read was-told)
-    where
-      through : (k : Bool) (m : Out (List Entry)) → out r mid ≡ replied (not k) (length l) n row m
-          → out (Refused number place) (replicate n 0 ++ drop n mid) ≡ stored k (length l) n row (map-out categories m)
-      through k (ok es left) p = absurd (let z : _≡_ {A = ℕ} 0 1 = cc in omega arith)
-      through true (refuse number′ place′) p = cc
-      through false (refuse number′ place′) p =
-          let e : mid ≡ replicate n 0 ++ drop n row = cc in
-          let f : drop n mid ≡ drop n row = rw e (zero-rest n row) in
-          cc
-
-  pub leaning-kept : (c : Cursor) → r ≡ Listed c → keep ≡ true
-      → out (Listed c) mid ≡ stored keep (length l) n row (kind-categories n row (against-anchor inverted) l start)
-  leaning-kept c q k = rw leaning-is (through keep k read was-told)
-    where
-      through : (t : Bool) → t ≡ true → (m : Out (List Entry)) → out r mid ≡ replied (not t) (length l) n row m
-          → out (Listed c) mid ≡ stored t (length l) n row (map-out categories m)
-      through true e (ok es left) p = cc
-      through true e (refuse number place) p = absurd (let z : _≡_ {A = ℕ} 0 1 = cc in omega arith)
-      through false e m p = let z : _≡_ {A = ℕ} 0 1 = cc in absurd (omega arith)
-
   -- the row that the list was put into, exchanged if the kind is inverted
-  pub leaning-stored : (c : Cursor) (new : List ℕ) → r ≡ Listed c → keep ≡ false → new ≡ exchange-all inverted (take n mid) ++ drop n mid
-      → out (Listed c) new ≡ stored keep (length l) n row (kind-categories n row (against-anchor inverted) l start)
-  leaning-stored c new q k g = rw (leaning-is, k) (through read (rw k at was-told))
+  pub leaning-turned : (new : List ℕ) → new ≡ turned inverted keep n mid
+      → wiped n (out r new) ≡ stored keep (length l) n row (kind-categories n row (against-anchor inverted) l start)
+  leaning-turned new g = rw leaning-is (through keep read was-told g)
     where
-      through : (m : Out (List Entry)) → out r mid ≡ replied true (length l) n row m → out (Listed c) new ≡ stored false (length l) n row (map-out categories m)
-      through (refuse number place) p = absurd (let z : _≡_ {A = ℕ} 0 1 = cc in omega arith)
-      through (ok es left) p =
+      cleared-rest : mid ≡ replicate n 0 ++ drop n row → drop n (exchange-all inverted (take n mid) ++ drop n mid) ≡ drop n row
+      cleared-rest e =
+          let t : take n mid ≡ replicate n 0 = rw e (take-at (replicate n 0) (drop n row) n (length-replicate n 0)) in
+          let k : length (exchange-all inverted (take n mid)) ≡ n = rw t (exchange-all-length inverted (replicate n 0) ∙ length-replicate n 0) in
+          rest-of n (exchange-all inverted (take n mid)) mid k ∙ rw e (zero-rest n row)
+
+      through : (k : Bool) (m : Out (List Entry)) → out r mid ≡ replied (not k) (length l) n row m → new ≡ turned inverted k n mid
+          → wiped n (out r new) ≡ stored k (length l) n row (map-out categories m)
+      through true (ok es left) p f =
+          let q : r ≡ Listed (before (length l) left) = cc in
+          let e : new ≡ row = cc in
+          rw (q, e)
+      through true (refuse number place) p f =
+          let q : r ≡ Refused number place = cc in
+          let e : new ≡ row = cc in
+          rw (q, e)
+      through false (ok es left) p f =
+          let q : r ≡ Listed (before (length l) left) = cc in
           let e : mid ≡ apply es (take n row) ++ drop n row = cc in
           let t : take n mid ≡ apply es (take n row) = rw e (take-at (apply es (take n row)) (drop n row) n (applied-length es)) in
           let d : drop n mid ≡ drop n row = rw e (rest-of n (apply es (take n row)) row (applied-length es)) in
-          let f : new ≡ exchange-all inverted (apply es (take n row)) ++ drop n row = rw (t, d) at g in
-          cc
+          rw (q, f, t, d)
+      through false (refuse number place) p f =
+          let q : r ≡ Refused number place = cc in
+          let e : mid ≡ replicate n 0 ++ drop n row = cc in
+          rw (q, f, cleared-rest e)
 
-  pub not-inverted : inverted ≡ false → mid ≡ exchange-all inverted (take n mid) ++ drop n mid
-  not-inverted e = rw (e, exchange-all-none (take n mid)) (sym (take-append-drop n mid))
+-- the ways out of `exchange_if`
+module _ (inverted keep : Bool) (n : ℕ) (row : List ℕ) where
+  pub turned-kept : keep ≡ true → row ≡ turned inverted keep n row
+  turned-kept k = rw k
 
-  pub is-inverted : inverted ≡ true → (new : List ℕ) → new ≡ exchange-all true (take n mid) ++ drop n mid → new ≡ exchange-all inverted (take n mid) ++ drop n mid
-  is-inverted e new g = rw e g
+  pub turned-not : keep ≡ false → inverted ≡ false → row ≡ turned inverted keep n row
+  turned-not k e = rw (k, e, exchange-all-none (take n row)) (sym (take-append-drop n row))
+
+  pub turned-all : keep ≡ false → inverted ≡ true → (new : List ℕ) → new ≡ exchange-all true (take n row) ++ drop n row → new ≡ turned inverted keep n row
+  turned-all k e new g = rw (k, e) g

@@ -6,6 +6,7 @@ use mathlib.Core.List.{List, _++_, map}
 use lib.ListN.{length, take, drop, replicate}
 use lib.Dec.{eqb}
 use Rattle.format.specs.Base.{pick, Out, ok, refuse, bind, map-out}
+use Rattle.format.specs.Category.{exchange-all}
 use Rattle.format.specs.Packed.{one, read-packed}
 use Rattle.format.specs.Difflist.{number-width, read-list}
 use Rattle.format.specs.Track.{Kind, rule, apply, read-kind, track-categories}
@@ -28,6 +29,9 @@ stored kept end n row (refuse number place) = out (Refused number place) (replic
 unfoldable pub kind-categories : ℕ → List ℕ → Kind → List ℕ → ℕ → Out (List ℕ)
 kind-categories n row k l start = map-out (track-categories n (take n row)) (read-kind (length l) n (take n row) k (drop start l))
 
+abbrev pub tracked : Bool → Kind → ℕ → List ℕ → ℕ → List ℕ → Outcome
+tracked kept k n l start row = stored kept (length l) n row (kind-categories n row k l start)
+
 -- the bits and the list of a track of kind 1, after its pair code
 abbrev pub off-both : ℕ → ℕ → ℕ → ℕ → Bool
 off-both lower higher sample value = not (eqb value lower || eqb value higher)
@@ -36,3 +40,7 @@ unfoldable pub pair-categories : ℕ → ℕ → ℕ → List ℕ → ℕ → Ou
 pair-categories lower higher n l at =
     bind (read-packed (length l) one n (drop at l)) (λ bits left.
     map-out (λ es. apply es (map (of-pair lower higher) bits)) (read-list (rule n (off-both lower higher)) (number-width n) (length l) left))
+
+-- a row that a list of kind 2 or 3 was put into, unless the row is kept
+abbrev pub turned : Bool → Bool → ℕ → List ℕ → List ℕ
+turned inverted keep n row = pick keep row (exchange-all inverted (take n row) ++ drop n row)

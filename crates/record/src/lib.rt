@@ -13,7 +13,7 @@ ghost use mathlib.Core.Bool.{false, _&&_};
 ghost use lib.ListN.{length, take};
 ghost use Rattle.format.specs.Track.{Kind, array, paired, against-anchor, against-category, kind, leans};
 ghost use Rattle.difflist.specs.Entries.{out};
-ghost use Rattle.record.specs.Rows.{wiped, stored, pair-categories, kind-categories};
+ghost use Rattle.record.specs.Rows.{wiped, stored, pair-categories, tracked, turned};
 ghost use Rattle.record.specs.Recorded.{done, recorded};
 
 pub enum RecordReply {
@@ -24,7 +24,7 @@ pub enum RecordReply {
 // "Kind 0: the packed array."
 fn read_array(s: &[u8], start: usize, n: usize, row: &mut [u8]) -> ListStep
     requires { ⌜ (start ≤ length (now s)) × (n ≤ 65536) × (n ≤ length (now row)) ⌝ }
-    ensures { λ r. ⌜ wiped n (out r (now (row .exit))) ≡ stored false (length (now (s .entry))) n (now (row .entry)) (kind-categories n (now (row .entry)) array (now (s .entry)) start) ⌝ }
+    ensures { λ r. ⌜ wiped n (out r (now (row .exit))) ≡ tracked false array n (now (s .entry)) start (now (row .entry)) ⌝ }
 {
     let got = packed::unpack_categories(s, start, n, row);
     match got {
@@ -51,7 +51,7 @@ fn read_bits(s: &[u8], at: usize, n: usize, lower: u8, higher: u8, row: &mut [u8
 // "Kind 1: a pair code". 14, "pair code unknown", at "that byte".
 fn read_pair(s: &[u8], start: usize, n: usize, row: &mut [u8]) -> ListStep
     requires { ⌜ (start ≤ length (now s)) × (n ≤ 65536) × (n ≤ length (now row)) ⌝ }
-    ensures { λ r. ⌜ wiped n (out r (now (row .exit))) ≡ stored false (length (now (s .entry))) n (now (row .entry)) (kind-categories n (now (row .entry)) paired (now (s .entry)) start) ⌝ }
+    ensures { λ r. ⌜ wiped n (out r (now (row .exit))) ≡ tracked false paired n (now (s .entry)) start (now (row .entry)) ⌝ }
 {
     let c = Cursor { at: start };
     let got = c.byte(s);
@@ -70,33 +70,42 @@ fn read_pair(s: &[u8], start: usize, n: usize, row: &mut [u8]) -> ListStep
     }
 }
 
-// "Kind 2: a list against the anchor". "Kind 3: as kind 2, then 0 and 2 exchanged for all samples", so after the list. With `keep` the record is
-// only checked, and the anchor's row stays.
-fn read_leaning(s: &[u8], start: usize, n: usize, inverted: bool, keep: bool, row: &mut [u8]) -> ListStep
+// The exchange of an inverted kind, unless the record is only checked.
+fn exchange_if(row: &mut [u8], n: usize, inverted: bool, keep: bool)
+    requires { ⌜ n ≤ length (now row) ⌝ }
+    ensures { λ _. ⌜ now (row .exit) ≡ turned inverted keep n (now (row .entry)) ⌝ }
+{
+    if keep {
+        return;
+    }
+    if inverted {
+        packed::exchange_row(row, n);
+    }
+}
+
+// "Kind 2: a list against the anchor". "Kind 3: as kind 2, then 0 and 2 exchanged for all samples", so after the list: in kind 3 the listed
+// values are the ones before inversion. With `keep` the record is only checked, and the anchor's row stays.
+fn read_leaning(
+    s: &[u8],
+    start: usize,
+    n: usize,
+    inverted: bool,
+    keep: bool,
+    row: &mut [u8],
+) -> ListStep
     requires { ⌜ (start ≤ length (now s)) × (n ≤ 65536) × (n ≤ length (now row)) ⌝ }
-    ensures { λ r. ⌜ wiped n (out r (now (row .exit))) ≡ stored keep (length (now (s .entry))) n (now (row .entry)) (kind-categories n (now (row .entry)) (against-anchor inverted) (now (s .entry)) start) ⌝ }
+    ensures { λ r. ⌜ wiped n (out r (now (row .exit))) ≡ tracked keep (against-anchor inverted) n (now (s .entry)) start (now (row .entry)) ⌝ }
 {
     let c = Cursor { at: start };
     let got = difflist::apply_list(s, n, ListRule::OffRow, !keep, c, row);
-    match got {
-        ListStep::Refused { number, place } => ListStep::Refused { number, place },
-        ListStep::Listed(next) => {
-            if keep {
-                return ListStep::Listed(next);
-            }
-            if inverted {
-                packed::exchange_row(row, n);
-                return ListStep::Listed(next);
-            }
-            ListStep::Listed(next)
-        }
-    }
+    exchange_if(row, n, inverted, keep);
+    got
 }
 
 // "Kinds 4, 6, 7: a list of the samples outside category 0, 2, 3": against a row in that category.
 fn read_sparse(s: &[u8], start: usize, n: usize, category: u8, row: &mut [u8]) -> ListStep
     requires { ⌜ (start ≤ length (now s)) × (n ≤ 65536) × (n ≤ length (now row)) ⌝ }
-    ensures { λ r. ⌜ wiped n (out r (now (row .exit))) ≡ stored false (length (now (s .entry))) n (now (row .entry)) (kind-categories n (now (row .entry)) (against-category category) (now (s .entry)) start) ⌝ }
+    ensures { λ r. ⌜ wiped n (out r (now (row .exit))) ≡ tracked false (against-category category) n (now (s .entry)) start (now (row .entry)) ⌝ }
 {
     packed::fill(row, n, category);
     let c = Cursor { at: start };
@@ -107,7 +116,7 @@ fn read_sparse(s: &[u8], start: usize, n: usize, category: u8, row: &mut [u8]) -
 fn read_track(s: &[u8], start: usize, n: usize, number: u8, keep: bool, row: &mut [u8]) -> ListStep
     requires { ⌜ (start ≤ length (now s)) × (n ≤ 65536) × (n ≤ length (now row)) ⌝ }
     requires { ⌜ (number < 8) × (number ≡ 5 → ⊥) ⌝ }
-    ensures { λ r. ⌜ wiped n (out r (now (row .exit))) ≡ stored (leans number && keep) (length (now (s .entry))) n (now (row .entry)) (kind-categories n (now (row .entry)) (kind number) (now (s .entry)) start) ⌝ }
+    ensures { λ r. ⌜ wiped n (out r (now (row .exit))) ≡ tracked (leans number && keep) (kind number) n (now (s .entry)) start (now (row .entry)) ⌝ }
 {
     if number == 0 {
         return read_array(s, start, n, row);
@@ -123,7 +132,14 @@ fn read_track(s: &[u8], start: usize, n: usize, number: u8, keep: bool, row: &mu
 
 // The record of a kind, from `start` on. The row's first n bytes hold the anchor's categories if the kind leans; they become the record's own,
 // or stay where a leaning record is only checked (`keep`). 01, Replies: "Lastly 13"; after every refusal they are zero.
-pub fn read_body(s: &[u8], start: usize, n: usize, number: u8, keep: bool, row: &mut [u8]) -> RecordReply
+pub fn read_body(
+    s: &[u8],
+    start: usize,
+    n: usize,
+    number: u8,
+    keep: bool,
+    row: &mut [u8],
+) -> RecordReply
     requires { ⌜ (start ≤ length (now s)) × (n ≤ 65536) × (n ≤ length (now row)) ⌝ }
     requires { ⌜ (number < 8) × (number ≡ 5 → ⊥) ⌝ }
     ensures { λ r. ⌜ done r (now (row .exit)) ≡ recorded keep n number (now (s .entry)) start (now (row .entry)) ⌝ }

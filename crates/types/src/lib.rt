@@ -1,7 +1,7 @@
 // The types of a block by index: one of them, the first that is not allowed, and the nearest that does not lean.
 ghost use mathlib.Core.Path.{_≡_};
 ghost use mathlib.Core.Bool.{true};
-ghost use Prim.Native.Nat.{ℕ, suc, _+_, _/_, _<_, _≤_};
+ghost use Prim.Native.Nat.{suc, _+_, _/_, _<_, _≤_};
 ghost use lib.ListN.{length, drop};
 ghost use Rattle.format.specs.Base.{pick};
 ghost use Rattle.format.specs.Packed.{four, eight, more, packed-size};

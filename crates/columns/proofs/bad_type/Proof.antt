@@ -1,4 +1,4 @@
--- `columns::bad_type` meets its contract.
+-- `columns::bad_type` meets its contract: the loop's invariant is `Over`.
 -- Assumes nothing.
 use Rattle.columns.proofs.Over.{Over, starts, stops, goes-on, ends}
 use Rattle.columns.proofs.Arrangement.{few, types-fit}
@@ -30,7 +30,7 @@ add-bad-in-block : tie.Need-add-bad-in-block Inv-loop μ-loop
 add-bad-in-block c = omega (arith, few (c .before .before .loop .j) (c .before .before .before .before .args .b .full) (omega (arith, c .before .before .before .before .pre .most)) (c .before .before .before .before .pre .small .full-most), c .before .before .before .before .pre .small .at-most)
 
 bad-in-block-requires : tie.Need-bad-in-block-requires Inv-loop μ-loop
-bad-in-block-requires c κs = let a = c .before .before .before .before .args in (c .count-in .ensures .1, c .count-in .ensures .2, types-fit (now (a .file)) (a .m) (a .b) (c .before .before .loop .j) (c .count-in .result) (c .before .before .before .before .pre) (omega arith) (c .count-in .ensures .0))
+bad-in-block-requires c κs = let a = c .before .before .before .before .args in (omega (arith, c .count-in .ensures .1), omega (arith, c .count-in .ensures .2), omega (arith, types-fit (now (a .file)) (a .m) (a .b) (c .before .before .loop .j) (c .count-in .result) (c .before .before .before .before .pre) (omega arith) (c .count-in .ensures .0)))
 
 in-file-requires : tie.Need-in-file-requires Inv-loop μ-loop
 in-file-requires c κs = omega (arith, c .before .before .before .before .before .before .before .pre .most, c .before .before .before .count-in .ensures .2)

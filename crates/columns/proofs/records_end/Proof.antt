@@ -1,4 +1,4 @@
--- `columns::records_end` meets its contract.
+-- `columns::records_end` meets its contract: the loop's invariant is `OverOffsets`.
 -- Assumes nothing.
 use Rattle.columns.proofs.OverOffsets.{OverOffsets, starts, stops, goes-on, ends}
 use Rattle.columns.proofs.Arrangement.{block-inside, few, lengths-fit}
@@ -30,7 +30,7 @@ number-at-requires : tie.Need-number-at-requires Inv-loop μ-loop
 number-at-requires c κs = (omega arith, c .before .before .before .pre .0 .after-offsets (c .before .loop .j) (block-inside (c .before .before .before .args .m) (c .before .loop .j) (omega arith)))
 
 returns : tie.Need-returns Inv-loop μ-loop
-returns c = let a = c .before .before .before .before .before .args in let w = c .before .before .before .loop in stops (now (a .file)) (a .m) (a .b) (w .j) (c .before .number-at .result) (w .start) (a .end) (omega arith) (c .before .number-at .ensures .0) (c .if1 .taken) (w .inv)
+returns c = let a = c .before .before .before .before .before .args in let w = c .before .before .before .loop in stops (now (a .file)) (a .m) (a .b) (w .j) (c .before .number-at .result) (w .start) (a .end) (omega arith) (c .before .number-at .ensures .0) (λ e. omega arith) (w .inv)
 
 count-in-requires : tie.Need-count-in-requires Inv-loop μ-loop
 count-in-requires c κs = omega (arith, c .before .before .before .before .before .pre .0 .most)

@@ -1,4 +1,4 @@
--- `numbers::number_at` meets its contract.
+-- `numbers::number_at` meets its contract: the loop's invariant is `Reading`.
 -- Assumes nothing.
 use borrow.Author.Needs.{needs}
 use native.Mathlib.Omega.{arith}

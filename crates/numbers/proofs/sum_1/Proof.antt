@@ -1,4 +1,4 @@
--- `numbers::sum_1` meets its contract.
+-- `numbers::sum_1` meets its contract: the loop's invariant is `Summing`.
 -- Assumes nothing.
 use Prim.Native.Nat.{_-_, _+_, _*_}
 use mathlib.Core.Path.{_≡_}

@@ -1,5 +1,3 @@
--- `packed::store_numbers` meets its contract.
--- Assumes nothing.
 use native.Mathlib.Omega.{arith}
 use Prim.Native.Nat.{_+_, _*_, _/_, _≤_}
 use lib.ListN.{length}
@@ -10,41 +8,79 @@ use borrow.Author.Needs.{needs}
 use Rattle.packed.proofs.store_numbers.Statement.{statement}
 use Rattle.packed.proofs.store_numbers.Tie as tie
 
+-- src/lib.rt:160:33
 enum-told : tie.Need-enum-told
 enum-told c = search needs
 
+-- src/lib.rt:160:13
 store-octets-requires : tie.Need-store-octets-requires
-store-octets-requires c κs = let h : c .before .before .before .before .before .args .at + packed-size one (c .before .before .before .before .before .args .n) ≤ length (c .before .before .before .before .before .args .s .now) = rw (c .before .enum-told .given .1) at (c .before .before .before .before .before .pre .1) in (omega (arith, h), omega (arith, c .before .before .before .before .before .pre .0))
+store-octets-requires c κs =
+    let args = c .before .before .before .before .before .args in
+    let pre = c .before .before .before .before .before .pre in
+    let h : args .at + packed-size one (args .n) ≤ length (args .s .now) = rw (c .before .enum-told .given .1) at (pre .1) in
+    (omega (arith, h), omega (arith, pre .0))
 
+-- src/lib.rt:161:31
 mul-store-rest : tie.Need-mul-store-rest
 mul-store-rest c = search needs
 
+-- src/lib.rt:161:13
 store-rest-requires : tie.Need-store-rest-requires
-store-rest-requires c κs = let h : c .before .before .before .before .before .before .before .before .before .args .at + packed-size one (c .before .before .before .before .before .before .before .before .before .args .n) ≤ length (c .before .before .before .before .before .before .before .before .before .args .s .now) = rw (c .before .before .before .before .before .enum-told .given .1) at (c .before .before .before .before .before .before .before .before .before .pre .1) in ((omega arith, omega (arith, c .before .before .before .before .before .before .before .before .before .pre .0, c .before .before .before .store-octets .kept .1 .1 .1 .0)), h)
+store-rest-requires c κs =
+    let args = c .before .before .before .before .before .before .before .before .before .args in
+    let pre = c .before .before .before .before .before .before .before .before .before .pre in
+    let h : args .at + packed-size one (args .n) ≤ length (args .s .now) = rw (c .before .before .before .before .before .enum-told .given .1) at
+    (pre .1) in ((omega arith, omega (arith, pre .0, c .before .before .before .store-octets .kept .1 .1 .1 .0)), h)
 
+-- src/lib.rt:164:32
 enum-told-2 : tie.Need-enum-told-2
 enum-told-2 c = search needs
 
+-- src/lib.rt:164:13
 store-quads-requires : tie.Need-store-quads-requires
-store-quads-requires c κs = let h : c .before .before .before .before .before .args .at + packed-size two (c .before .before .before .before .before .args .n) ≤ length (c .before .before .before .before .before .args .s .now) = rw (c .before .enum-told2 .given .1) at (c .before .before .before .before .before .pre .1) in (omega (arith, h), omega (arith, c .before .before .before .before .before .pre .0))
+store-quads-requires c κs =
+    let args = c .before .before .before .before .before .args in
+    let pre = c .before .before .before .before .before .pre in
+    let h : args .at + packed-size two (args .n) ≤ length (args .s .now) = rw (c .before .enum-told2 .given .1) at (pre .1) in
+    (omega (arith, h), omega (arith, pre .0))
 
+-- src/lib.rt:165:31
 mul-store-rest-2 : tie.Need-mul-store-rest-2
 mul-store-rest-2 c = search needs
 
+-- src/lib.rt:165:13
 store-rest-requires-2 : tie.Need-store-rest-requires-2
-store-rest-requires-2 c κs = let h : c .before .before .before .before .before .before .before .before .before .args .at + packed-size two (c .before .before .before .before .before .before .before .before .before .args .n) ≤ length (c .before .before .before .before .before .before .before .before .before .args .s .now) = rw (c .before .before .before .before .before .enum-told2 .given .1) at (c .before .before .before .before .before .before .before .before .before .pre .1) in ((omega arith, omega (arith, c .before .before .before .before .before .before .before .before .before .pre .0, c .before .before .before .store-quads .kept .1 .1 .1 .0)), h)
+store-rest-requires-2 c κs =
+    let args = c .before .before .before .before .before .before .before .before .before .args in
+    let pre = c .before .before .before .before .before .before .before .before .before .pre in
+    let h : args .at + packed-size two (args .n) ≤ length (args .s .now) = rw (c .before .before .before .before .before .enum-told2 .given .1) at
+    (pre .1) in ((omega arith, omega (arith, pre .0, c .before .before .before .store-quads .kept .1 .1 .1 .0)), h)
 
+-- src/lib.rt:154:1
 same-length : tie.Need-same-length
 same-length c = search needs
 
+-- src/lib.rt:154:1
 returns : tie.Need-returns
-returns c = rw (c .before .before .before .before .before .before .before .before .enum-told .given .1) (both-stored (number-in one (c .before .before .before .before .before .before .before .before .before .before .before .before .args .s .now) (c .before .before .before .before .before .before .before .before .before .before .before .before .args .at)) (8 * (c .before .before .before .before .before .before .before .before .before .before .before .before .args .n / 8)) (c .before .before .before .before .before .before .before .before .before .before .before .before .args .n) (c .before .before .before .before .before .before .before .before .before .before .before .before .args .row .now) (c .before .before .before .before .before .before .store-octets .last .1 .1 .1 .0) (c .before .before .store-rest .last .1 .1 .1 .1 .1 .0) (omega arith) (c .before .before .before .before .before .before .before .before .before .before .before .before .pre .0) (c .before .before .before .before .before .before .store-octets .ensures) (c .before .before .store-rest .ensures))
+returns c =
+    let args = c .before .before .before .before .before .before .before .before .before .before .before .before .args in
+    let store-octets = c .before .before .before .before .before .before .store-octets in
+    let store-rest = c .before .before .store-rest in
+    rw (c .before .before .before .before .before .before .before .before .enum-told .given .1)
+    (both-stored (number-in one (args .s .now) (args .at)) (8 * (args .n / 8)) (args .n) (args .row .now) (store-octets .last .1 .1 .1 .0) (store-rest .last .1 .1 .1 .1 .1 .0) (omega arith) (c .before .before .before .before .before .before .before .before .before .before .before .before .pre .0) (store-octets .ensures) (store-rest .ensures))
 
+-- src/lib.rt:154:1
 same-length-2 : tie.Need-same-length-2
 same-length-2 c = search needs
 
+-- src/lib.rt:154:1
 returns-2 : tie.Need-returns-2
-returns-2 c = rw (c .before .before .before .before .before .before .before .before .enum-told2 .given .1) (both-stored (number-in two (c .before .before .before .before .before .before .before .before .before .before .before .before .args .s .now) (c .before .before .before .before .before .before .before .before .before .before .before .before .args .at)) (4 * (c .before .before .before .before .before .before .before .before .before .before .before .before .args .n / 4)) (c .before .before .before .before .before .before .before .before .before .before .before .before .args .n) (c .before .before .before .before .before .before .before .before .before .before .before .before .args .row .now) (c .before .before .before .before .before .before .store-quads .last .1 .1 .1 .0) (c .before .before .store-rest2 .last .1 .1 .1 .1 .1 .0) (omega arith) (c .before .before .before .before .before .before .before .before .before .before .before .before .pre .0) (c .before .before .before .before .before .before .store-quads .ensures) (c .before .before .store-rest2 .ensures))
+returns-2 c =
+    let args = c .before .before .before .before .before .before .before .before .before .before .before .before .args in
+    let store-quads = c .before .before .before .before .before .before .store-quads in
+    let store-rest2 = c .before .before .store-rest2 in
+    rw (c .before .before .before .before .before .before .before .before .enum-told2 .given .1)
+    (both-stored (number-in two (args .s .now) (args .at)) (4 * (args .n / 4)) (args .n) (args .row .now) (store-quads .last .1 .1 .1 .0) (store-rest2 .last .1 .1 .1 .1 .1 .0) (omega arith) (c .before .before .before .before .before .before .before .before .before .before .before .before .pre .0) (store-quads .ensures) (store-rest2 .ensures))
 
 pub store-numbers-spec : {M : Type 1} → statement M
 store-numbers-spec =

@@ -1,5 +1,3 @@
--- `packed::store_rest` meets its contract.
--- Assumes nothing.
 use native.Mathlib.Omega.{arith}
 use borrow.Author.Needs.{needs}
 use Rattle.format.proofs.PackedLaws.{byte-there}
@@ -17,29 +15,45 @@ Inv-loop s at from n width row₀ k₀ row k = (k ≤ n) × ((length row ≡ len
 abbrev μ-loop : tie.MeasureT-loop
 μ-loop s at from n width row₀ k₀ row k = n - k
 
+-- src/lib.rt:148:5
 loop-holds : tie.Need-loop-holds Inv-loop μ-loop
 loop-holds c = search needs
 
+-- src/lib.rt:149:18
 number-at-requires : tie.Need-number-at-requires Inv-loop μ-loop
-number-at-requires c κs = omega (arith, byte-there (bits-of (c .before .before .before .before .args .width)) (c .before .loop .k) (c .before .before .before .before .args .n) (c .loop-test .taken), c .before .before .before .before .pre .1)
+number-at-requires c κs =
+    let args = c .before .before .before .before .args in
+    omega (arith, byte-there (bits-of (args .width)) (c .before .loop .k) (args .n) (c .loop-test .taken), c .before .before .before .before .pre .1)
 
+-- src/lib.rt:149:9
 slice-write-row : tie.Need-slice-write-row Inv-loop μ-loop
 slice-write-row c = search needs
 
+-- src/lib.rt:148:9
 add-k : tie.Need-add-k Inv-loop μ-loop
 add-k c = search needs
 
+-- src/lib.rt:148:5
 loop-less : tie.Need-loop-less Inv-loop μ-loop
 loop-less c = search needs
 
+-- src/lib.rt:148:5
 loop-again : tie.Need-loop-again Inv-loop μ-loop
-loop-again c = (omega arith, (simp length-set (c .before .before .loop .inv .1 .0), rest-turn (number-in (bits-of (c .before .before .before .before .before .args .width)) (c .before .before .before .before .before .args .s .now) (c .before .before .before .before .before .args .at)) (c .before .before .before .before .before .args .n) (c .before .before .loop .k) (c .number-at .result) (c .before .before .loop .row) _ (c .before .loop-test .taken) (c .number-at .ensures) (c .before .before .loop .inv .1 .1)))
+loop-again c =
+    let args = c .before .before .before .before .before .args in
+    let loop = c .before .before .loop in
+    (omega arith, (simp length-set (loop .inv .1 .0), rest-turn (number-in (bits-of (args .width)) (args .s .now) (args .at)) (args .n) (loop .k) (c .number-at .result) (loop .row) _ (c .before .loop-test .taken) (c .number-at .ensures) (loop .inv .1 .1)))
 
+-- src/lib.rt:143:1
 same-length : tie.Need-same-length Inv-loop μ-loop
 same-length c = search needs
 
+-- src/lib.rt:143:1
 returns : tie.Need-returns Inv-loop μ-loop
-returns c = rest-done (number-in (bits-of (c .before .before .before .before .args .width)) (c .before .before .before .before .args .s .now) (c .before .before .before .before .args .at)) (c .before .before .before .before .args .n - c .before .loop .k) (c .before .loop .k) (c .before .loop .row) _ (omega (arith, c .loop-test .left)) (c .before .loop .inv .1 .1)
+returns c =
+    let args = c .before .before .before .before .args in
+    rest-done (number-in (bits-of (args .width)) (args .s .now) (args .at)) (args .n - c .before .loop .k) (c .before .loop .k) (c .before .loop .row)
+    _ (omega (arith, c .loop-test .left)) (c .before .loop .inv .1 .1)
 
 pub store-rest-spec : {M : Type 1} → statement M
 store-rest-spec =

@@ -1,5 +1,3 @@
--- `packed::unpack_categories` meets its contract.
--- Assumes nothing.
 use Rattle.packed.proofs.CheckLaws.{was-accepted, two-refused, two-accepted}
 use Rattle.format.specs.Packed.{two}
 use mathlib.Core.Path.{sym, _∙_}
@@ -7,26 +5,47 @@ use borrow.Author.Needs.{needs}
 use Rattle.packed.proofs.unpack_categories.Statement.{statement}
 use Rattle.packed.proofs.unpack_categories.Tie as tie
 
+-- src/lib.rt:175:9
 check-requires : tie.Need-check-requires
 check-requires c κs = search needs
 
+-- src/lib.rt:177:31
 enum-known-checked : tie.Need-enum-known-checked
 enum-known-checked c = search needs
 
+-- src/lib.rt:178:26
 enum-known-checked-2 : tie.Need-enum-known-checked-2
 enum-known-checked-2 c = search needs
 
+-- src/lib.rt:179:13
 store-numbers-requires : tie.Need-store-numbers-requires
-store-numbers-requires c κs = (c .before .before .before .before .before .before .before .pre .2, was-accepted two (c .before .before .before .before .before .before .before .args .s .now) (c .before .before .before .before .before .before .before .args .at) (c .before .before .before .before .before .before .before .args .n) (c .before .before .checked2 .given .0 .0) (λ i. c .before .before .before .before .before .before .shared-slice-known .given i .fits) (c .before .before .before .before .before .before .before .pre .0) (sym (c .before .before .checked2 .given .1) ∙ c .before .before .before .before .check .ensures) .inside)
+store-numbers-requires c κs =
+    let pre = c .before .before .before .before .before .before .before .pre in
+    let args = c .before .before .before .before .before .before .before .args in
+    let checked2 = c .before .before .checked2 in
+    (pre .2, was-accepted two (args .s .now) (args .at) (args .n) (checked2 .given .0 .0) (λ i. c .before .before .before .before .before .before .shared-slice-known .given i .fits) (pre .0) (sym (checked2 .given .1) ∙ c .before .before .before .before .check .ensures) .inside)
 
+-- src/lib.rt:171:1
 returns : tie.Need-returns
-returns c = two-refused (c .before .before .before .before .before .before .args .s .now) (c .before .before .before .before .before .before .args .at) (c .before .before .before .before .before .before .args .n) (c .before .before .before .before .before .before .args .row .now) (c .before .checked .given .0 .0) (c .before .checked .given .0 .1 .0) (sym (c .before .checked .given .1) ∙ c .before .before .before .check .ensures)
+returns c =
+    let args = c .before .before .before .before .before .before .args in
+    let checked = c .before .checked in
+    two-refused (args .s .now) (args .at) (args .n) (args .row .now) (checked .given .0 .0) (checked .given .0 .1 .0)
+    (sym (checked .given .1) ∙ c .before .before .before .check .ensures)
 
+-- src/lib.rt:171:1
 same-length : tie.Need-same-length
 same-length c = search needs
 
+-- src/lib.rt:171:1
 returns-2 : tie.Need-returns-2
-returns-2 c = two-accepted (c .before .before .before .before .before .before .before .before .before .before .args .s .now) (c .before .before .before .before .before .before .before .before .before .before .args .at) (c .before .before .before .before .before .before .before .before .before .before .args .n) (c .before .before .before .before .before .before .before .before .before .before .args .row .now) (c .before .before .before .before .before .checked2 .given .0 .0) (c .before .before .store-numbers .last .1 .1 .1 .1 .0) (was-accepted two (c .before .before .before .before .before .before .before .before .before .before .args .s .now) (c .before .before .before .before .before .before .before .before .before .before .args .at) (c .before .before .before .before .before .before .before .before .before .before .args .n) (c .before .before .before .before .before .checked2 .given .0 .0) (λ i. c .before .before .before .before .before .before .before .before .before .shared-slice-known .given i .fits) (c .before .before .before .before .before .before .before .before .before .before .pre .0) (sym (c .before .before .before .before .before .checked2 .given .1) ∙ c .before .before .before .before .before .before .before .check .ensures)) (c .before .before .store-numbers .ensures)
+returns-2 c =
+    let args = c .before .before .before .before .before .before .before .before .before .before .args in
+    let checked2 = c .before .before .before .before .before .checked2 in
+    let store-numbers = c .before .before .store-numbers in
+    two-accepted (args .s .now) (args .at) (args .n) (args .row .now) (checked2 .given .0 .0) (store-numbers .last .1 .1 .1 .1 .0)
+    (was-accepted two (args .s .now) (args .at) (args .n) (checked2 .given .0 .0) (λ i. c .before .before .before .before .before .before .before .before .before .shared-slice-known .given i .fits) (c .before .before .before .before .before .before .before .before .before .before .pre .0) (sym (checked2 .given .1) ∙ c .before .before .before .before .before .before .before .check .ensures))
+    (store-numbers .ensures)
 
 pub unpack-categories-spec : {M : Type 1} → statement M
 unpack-categories-spec =

@@ -1,3 +1,5 @@
+-- `pgen::view` meets its contract.
+-- Assumes nothing.
 use Rattle.pgen.proofs.ViewLaws.{header-refused, no-variant, a-variant, rises, inside, its-part}
 use Rattle.blocks.proofs.Sizes.{all-bytes}
 use denote.Ref.{now}
@@ -5,58 +7,42 @@ use native.Mathlib.Omega.{arith}
 use borrow.Author.Needs.{needs}
 use Rattle.pgen.proofs.view.Statement.{statement}
 use Rattle.pgen.proofs.view.Tie as tie
-use Rattle.pgen.proofs.view.Reads as reads
-use Rattle.pgen.proofs.view.Lts as lts
-use Rattle.header.proofs.check.Reads as check-reads
-use Rattle.places.proofs.place_of.Reads as place-of-reads
 
--- src/lib.rt:22:11
 check-requires : tie.Need-check-requires
 check-requires c κs = search needs
 
--- src/lib.rt:23:32
 enum-known-number : tie.Need-enum-known-number
 enum-known-number c = search needs
 
--- src/lib.rt:26:13
 slice-aggregate-result : tie.Need-slice-aggregate-result
 slice-aggregate-result c = search needs
 
--- src/lib.rt:28:42
 enum-known-variants : tie.Need-enum-known-variants
 enum-known-variants c = search needs
 
--- src/lib.rt:32:17
 slice-aggregate-result-2 : tie.Need-slice-aggregate-result-2
 slice-aggregate-result-2 c = search needs
 
--- src/lib.rt:32:17
 returns : tie.Need-returns
-returns c = no-variant (now (c .before .before .before .before .before .before .before .before .args .file)) (c .before .before .before .before .before .before .before .before .args .variant) (c .before .before .before .before .before .before .check .result) (c .before .before .before .before .variants .given .0 .0) (c .before .before .before .before .variants .given .0 .1 .0) (c .before .before .before .before .variants .given .0 .1 .1 .0) (c .before .before .before .before .variants .given .0 .1 .1 .1 .0) (all-bytes (now (c .before .before .before .before .before .before .before .before .args .file)) (λ i. c .before .before .before .before .before .before .before .shared-slice-known .given i .fits)) (c .before .before .before .before .before .before .check .ensures) (c .before .before .before .before .variants .given .1) (c .before .if1 .taken)
+returns c = no-variant (now (c .before .before .before .before .before .before .before .before .args .file)) (c .before .before .before .before .before .before .before .before .args .variant) (c .before .before .before .before .before .before .check .result) (c .before .before .before .before .variants .given .0 .0) (c .before .before .before .before .variants .given .0 .1 .0) (c .before .before .before .before .variants .given .0 .1 .1 .0) (c .before .before .before .before .variants .given .0 .1 .1 .1 .0) (all-bytes (now (c .before .before .before .before .before .before .before .before .args .file)) (λ i. c .before .before .before .before .before .before .before .shared-slice-known .given i .fits)) (c .before .before .before .before .before .before .check .ensures) (c .before .before .before .before .variants .given .1) (omega arith)
 
--- src/lib.rt:34:17
 place-of-requires : tie.Need-place-of-requires
-place-of-requires c κs = a-variant (now (c .before .before .before .before .before .before .before .args .file)) (c .before .before .before .before .before .before .before .args .variant) (c .before .before .before .before .before .check .result) (c .before .before .before .variants .given .0 .0) (c .before .before .before .variants .given .0 .1 .0) (c .before .before .before .variants .given .0 .1 .1 .0) (c .before .before .before .variants .given .0 .1 .1 .1 .0) (all-bytes (now (c .before .before .before .before .before .before .before .args .file)) (λ i. c .before .before .before .before .before .before .shared-slice-known .given i .fits)) (c .before .before .before .before .before .check .ensures) (c .before .before .before .variants .given .1) (c .if1 .left)
+place-of-requires c κs = a-variant (now (c .before .before .before .before .before .before .before .args .file)) (c .before .before .before .before .before .before .before .args .variant) (c .before .before .before .before .before .check .result) (c .before .before .before .variants .given .0 .0) (c .before .before .before .variants .given .0 .1 .0) (c .before .before .before .variants .given .0 .1 .1 .0) (c .before .before .before .variants .given .0 .1 .1 .1 .0) (all-bytes (now (c .before .before .before .before .before .before .before .args .file)) (λ i. c .before .before .before .before .before .before .shared-slice-known .given i .fits)) (c .before .before .before .before .before .check .ensures) (c .before .before .before .variants .given .1) (omega arith)
 
--- src/lib.rt:39:13
 sub-result : tie.Need-sub-result
-sub-result c = rises (now (c .before .before .before .before .before .before .before .before .args .file)) (c .before .before .before .before .before .before .before .before .args .variant) (c .before .before .before .before .before .before .check .result) (c .before .before .before .before .variants .given .0 .0) (c .before .before .before .before .variants .given .0 .1 .0) (c .before .before .before .before .variants .given .0 .1 .1 .0) (c .before .before .before .before .variants .given .0 .1 .1 .1 .0) (all-bytes (now (c .before .before .before .before .before .before .before .before .args .file)) (λ i. c .before .before .before .before .before .before .before .shared-slice-known .given i .fits)) (c .before .before .before .before .before .before .check .ensures) (c .before .before .before .before .variants .given .1) (c .before .if1 .left) (c .place-of .result) (c .place-of .ensures)
+sub-result c = rises (now (c .before .before .before .before .before .before .before .before .args .file)) (c .before .before .before .before .before .before .before .before .args .variant) (c .before .before .before .before .before .before .check .result) (c .before .before .before .before .variants .given .0 .0) (c .before .before .before .before .variants .given .0 .1 .0) (c .before .before .before .before .variants .given .0 .1 .1 .0) (c .before .before .before .before .variants .given .0 .1 .1 .1 .0) (all-bytes (now (c .before .before .before .before .before .before .before .before .args .file)) (λ i. c .before .before .before .before .before .before .before .shared-slice-known .given i .fits)) (c .before .before .before .before .before .before .check .ensures) (c .before .before .before .before .variants .given .1) (omega arith) (c .place-of .result) (c .place-of .ensures)
 
--- src/lib.rt:39:13
 part-result-start : tie.Need-part-result-start
-part-result-start c = rises (now (c .before .before .before .before .before .before .before .before .args .file)) (c .before .before .before .before .before .before .before .before .args .variant) (c .before .before .before .before .before .before .check .result) (c .before .before .before .before .variants .given .0 .0) (c .before .before .before .before .variants .given .0 .1 .0) (c .before .before .before .before .variants .given .0 .1 .1 .0) (c .before .before .before .before .variants .given .0 .1 .1 .1 .0) (all-bytes (now (c .before .before .before .before .before .before .before .before .args .file)) (λ i. c .before .before .before .before .before .before .before .shared-slice-known .given i .fits)) (c .before .before .before .before .before .before .check .ensures) (c .before .before .before .before .variants .given .1) (c .before .if1 .left) (c .place-of .result) (c .place-of .ensures)
+part-result-start c = rises (now (c .before .before .before .before .before .before .before .before .args .file)) (c .before .before .before .before .before .before .before .before .args .variant) (c .before .before .before .before .before .before .check .result) (c .before .before .before .before .variants .given .0 .0) (c .before .before .before .before .variants .given .0 .1 .0) (c .before .before .before .before .variants .given .0 .1 .1 .0) (c .before .before .before .before .variants .given .0 .1 .1 .1 .0) (all-bytes (now (c .before .before .before .before .before .before .before .before .args .file)) (λ i. c .before .before .before .before .before .before .before .shared-slice-known .given i .fits)) (c .before .before .before .before .before .before .check .ensures) (c .before .before .before .before .variants .given .1) (omega arith) (c .place-of .result) (c .place-of .ensures)
 
--- src/lib.rt:39:13
 part-result-end : tie.Need-part-result-end
-part-result-end c = inside (now (c .before .before .before .before .before .before .before .before .args .file)) (c .before .before .before .before .before .before .before .before .args .variant) (c .before .before .before .before .before .before .check .result) (c .before .before .before .before .variants .given .0 .0) (c .before .before .before .before .variants .given .0 .1 .0) (c .before .before .before .before .variants .given .0 .1 .1 .0) (c .before .before .before .before .variants .given .0 .1 .1 .1 .0) (all-bytes (now (c .before .before .before .before .before .before .before .before .args .file)) (λ i. c .before .before .before .before .before .before .before .shared-slice-known .given i .fits)) (c .before .before .before .before .before .before .check .ensures) (c .before .before .before .before .variants .given .1) (c .before .if1 .left) (c .place-of .result) (c .place-of .ensures)
+part-result-end c = inside (now (c .before .before .before .before .before .before .before .before .args .file)) (c .before .before .before .before .before .before .before .before .args .variant) (c .before .before .before .before .before .before .check .result) (c .before .before .before .before .variants .given .0 .0) (c .before .before .before .before .variants .given .0 .1 .0) (c .before .before .before .before .variants .given .0 .1 .1 .0) (c .before .before .before .before .variants .given .0 .1 .1 .1 .0) (all-bytes (now (c .before .before .before .before .before .before .before .before .args .file)) (λ i. c .before .before .before .before .before .before .before .shared-slice-known .given i .fits)) (c .before .before .before .before .before .before .check .ensures) (c .before .before .before .before .variants .given .1) (omega arith) (c .place-of .result) (c .place-of .ensures)
 
--- src/lib.rt:19:1
 returns-2 : tie.Need-returns-2
 returns-2 c = header-refused (now (c .before .before .before .before .before .before .args .file)) (c .before .before .before .before .before .before .args .variant) (c .before .before .before .before .check .result) (c .before .before .number .given .0 .0) (c .before .before .number .given .0 .1 .0) (all-bytes (now (c .before .before .before .before .before .before .args .file)) (λ i. c .before .before .before .before .before .shared-slice-known .given i .fits)) (c .before .before .before .before .check .ensures) (c .before .before .number .given .1)
 
--- src/lib.rt:19:1
 returns-3 : tie.Need-returns-3
-returns-3 c = its-part (now (c .before .before .before .before .before .before .before .before .before .args .file)) (c .before .before .before .before .before .before .before .before .before .args .variant) (c .before .before .before .before .before .before .before .check .result) (c .before .before .before .before .before .variants .given .0 .0) (c .before .before .before .before .before .variants .given .0 .1 .0) (c .before .before .before .before .before .variants .given .0 .1 .1 .0) (c .before .before .before .before .before .variants .given .0 .1 .1 .1 .0) (all-bytes (now (c .before .before .before .before .before .before .before .before .before .args .file)) (λ i. c .before .before .before .before .before .before .before .before .shared-slice-known .given i .fits)) (c .before .before .before .before .before .before .before .check .ensures) (c .before .before .before .before .before .variants .given .1) (c .before .before .if1 .left) (c .before .place-of .result) (c .before .place-of .ensures)
+returns-3 c = its-part (now (c .before .before .before .before .before .before .before .before .before .args .file)) (c .before .before .before .before .before .before .before .before .before .args .variant) (c .before .before .before .before .before .before .before .check .result) (c .before .before .before .before .before .variants .given .0 .0) (c .before .before .before .before .before .variants .given .0 .1 .0) (c .before .before .before .before .before .variants .given .0 .1 .1 .0) (c .before .before .before .before .before .variants .given .0 .1 .1 .1 .0) (all-bytes (now (c .before .before .before .before .before .before .before .before .before .args .file)) (λ i. c .before .before .before .before .before .before .before .before .shared-slice-known .given i .fits)) (c .before .before .before .before .before .before .before .check .ensures) (c .before .before .before .before .before .variants .given .1) (omega arith) (c .before .place-of .result) (c .before .place-of .ensures)
 
 pub view-spec : {M : Type 1} → statement M
 view-spec =

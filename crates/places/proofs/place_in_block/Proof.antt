@@ -1,3 +1,5 @@
+-- `places::place_in_block` meets its contract.
+-- Assumes nothing.
 use Rattle.places.proofs.InBlock.{fit, block-inside, number-inside, lengths-there, type-there, block-place-is, sums-fit, start-fits}
 use Rattle.places.proofs.AcceptedLaws.{most}
 use Rattle.columns.proofs.Arrangement.{few}
@@ -8,90 +10,61 @@ use native.Mathlib.Omega.{arith}
 use borrow.Author.Needs.{needs}
 use Rattle.places.proofs.place_in_block.Statement.{statement}
 use Rattle.places.proofs.place_in_block.Tie as tie
-use Rattle.places.proofs.place_in_block.Reads as reads
-use Rattle.places.proofs.place_in_block.Lts as lts
-use Rattle.blocks.proofs.blocks_of.Reads as blocks-of-reads
-use Rattle.columns.proofs.count_in.Reads as count-in-reads
-use Rattle.format.proofs.block_of.Reads as block-of-reads
-use Rattle.format.proofs.in_block.Reads as in-block-reads
-use Rattle.numbers.proofs.number_at.Reads as number-at-reads
-use Rattle.numbers.proofs.sum_lengths.Reads as sum-lengths-reads
-use Rattle.types.proofs.type_at.Reads as type-at-reads
-use Rattle.types.proofs.types_size.Reads as types-size-reads
 
--- src/lib.rt:39:9
 blocks-of-requires : tie.Need-blocks-of-requires
 blocks-of-requires c κs = (most (now (c .before .args .file)) (c .before .args .v) (c .before .pre .0) (all-bytes (now (c .before .args .file)) (λ i. c .shared-slice-known .given i .fits)) (c .before .args .f) (c .before .pre .1), is-blocked (c .before .args .f) (c .before .pre .2))
 
--- src/lib.rt:40:9
 block-of-requires : tie.Need-block-of-requires
 block-of-requires c κs = search needs
 
--- src/lib.rt:41:9
 in-block-requires : tie.Need-in-block-requires
 in-block-requires c κs = search needs
 
--- src/lib.rt:42:24
 mul-types : tie.Need-mul-types
 mul-types c = omega (arith, few (c .before .before .block-of .result) (c .before .before .before .blocks-of .result .full) (block-inside (now (c .before .before .before .before .before .args .file)) (c .before .before .before .before .before .args .v) (c .before .before .before .before .before .pre .0) (all-bytes (now (c .before .before .before .before .before .args .file)) (λ i. c .before .before .before .before .shared-slice-known .given i .fits)) (c .before .before .before .before .before .args .f) (c .before .before .before .before .before .pre .1) (is-blocked (c .before .before .before .before .before .args .f) (c .before .before .before .before .before .pre .2)) (c .before .before .before .blocks-of .result) (c .before .before .before .blocks-of .ensures .0) (c .before .before .before .blocks-of .ensures .1) (c .before .before .block-of .result) (c .before .before .block-of .ensures) (c .before .in-block .result) (c .before .in-block .ensures) .0) (c .before .before .before .blocks-of .ensures .1 .full-most))
 
--- src/lib.rt:42:17
 add-types : tie.Need-add-types
 add-types c = omega (arith, few (c .before .before .before .block-of .result) (c .before .before .before .before .blocks-of .result .full) (block-inside (now (c .before .before .before .before .before .before .args .file)) (c .before .before .before .before .before .before .args .v) (c .before .before .before .before .before .before .pre .0) (all-bytes (now (c .before .before .before .before .before .before .args .file)) (λ i. c .before .before .before .before .before .shared-slice-known .given i .fits)) (c .before .before .before .before .before .before .args .f) (c .before .before .before .before .before .before .pre .1) (is-blocked (c .before .before .before .before .before .before .args .f) (c .before .before .before .before .before .before .pre .2)) (c .before .before .before .before .blocks-of .result) (c .before .before .before .before .blocks-of .ensures .0) (c .before .before .before .before .blocks-of .ensures .1) (c .before .before .before .block-of .result) (c .before .before .before .block-of .ensures) (c .before .before .in-block .result) (c .before .before .in-block .ensures) .0) (c .before .before .before .before .blocks-of .ensures .1 .full-most), c .before .before .before .before .blocks-of .ensures .1 .at-most)
 
--- src/lib.rt:43:38
 count-in-requires : tie.Need-count-in-requires
 count-in-requires c κs = block-inside (now (c .before .before .before .before .before .before .args .file)) (c .before .before .before .before .before .before .args .v) (c .before .before .before .before .before .before .pre .0) (all-bytes (now (c .before .before .before .before .before .before .args .file)) (λ i. c .before .before .before .before .before .shared-slice-known .given i .fits)) (c .before .before .before .before .before .before .args .f) (c .before .before .before .before .before .before .pre .1) (is-blocked (c .before .before .before .before .before .before .args .f) (c .before .before .before .before .before .before .pre .2)) (c .before .before .before .before .blocks-of .result) (c .before .before .before .before .blocks-of .ensures .0) (c .before .before .before .before .blocks-of .ensures .1) (c .before .before .before .block-of .result) (c .before .before .before .block-of .ensures) (c .before .before .in-block .result) (c .before .before .in-block .ensures)
 
--- src/lib.rt:43:27
 types-size-requires : tie.Need-types-size-requires
 types-size-requires c κs = search needs
 
--- src/lib.rt:43:19
 add-lengths : tie.Need-add-lengths
 add-lengths c = omega (arith, lengths-there (now (c .before .before .before .before .before .before .before .before .args .file)) (c .before .before .before .before .before .before .before .before .args .v) (c .before .before .before .before .before .before .before .before .pre .0) (all-bytes (now (c .before .before .before .before .before .before .before .before .args .file)) (λ i. c .before .before .before .before .before .before .before .shared-slice-known .given i .fits)) (c .before .before .before .before .before .before .before .before .args .f) (c .before .before .before .before .before .before .before .before .pre .1) (is-blocked (c .before .before .before .before .before .before .before .before .args .f) (c .before .before .before .before .before .before .before .before .pre .2)) (c .before .before .before .before .before .before .blocks-of .result) (c .before .before .before .before .before .before .blocks-of .ensures .0) (c .before .before .before .before .before .before .blocks-of .ensures .1) (c .before .before .before .before .before .block-of .result) (c .before .before .before .before .before .block-of .ensures) (c .before .before .before .before .in-block .result) (c .before .before .before .before .in-block .ensures) (c .before .count-in .result) (c .types-size .result) (c .before .count-in .ensures .0) (c .types-size .ensures) .0)
 
--- src/lib.rt:44:38
 mul-number-at : tie.Need-mul-number-at
 mul-number-at c = search needs
 
--- src/lib.rt:44:33
 add-number-at : tie.Need-add-number-at
 add-number-at c = search needs
 
--- src/lib.rt:44:17
 number-at-requires : tie.Need-number-at-requires
 number-at-requires c κs = (omega arith, fit (now (c .before .before .before .before .before .before .before .before .args .file)) (c .before .before .before .before .before .before .before .before .args .v) (c .before .before .before .before .before .before .before .before .pre .0) (all-bytes (now (c .before .before .before .before .before .before .before .before .args .file)) (λ i. c .before .before .before .before .before .before .before .shared-slice-known .given i .fits)) (c .before .before .before .before .before .before .before .before .args .f) (c .before .before .before .before .before .before .before .before .pre .1) (is-blocked (c .before .before .before .before .before .before .before .before .args .f) (c .before .before .before .before .before .before .before .before .pre .2)) (c .before .before .before .before .before .before .blocks-of .result) (c .before .before .before .before .before .before .blocks-of .ensures .0) (c .before .before .before .before .before .before .blocks-of .ensures .1) .after-offsets (c .before .before .before .before .before .block-of .result) (block-inside (now (c .before .before .before .before .before .before .before .before .args .file)) (c .before .before .before .before .before .before .before .before .args .v) (c .before .before .before .before .before .before .before .before .pre .0) (all-bytes (now (c .before .before .before .before .before .before .before .before .args .file)) (λ i. c .before .before .before .before .before .before .before .shared-slice-known .given i .fits)) (c .before .before .before .before .before .before .before .before .args .f) (c .before .before .before .before .before .before .before .before .pre .1) (is-blocked (c .before .before .before .before .before .before .before .before .args .f) (c .before .before .before .before .before .before .before .before .pre .2)) (c .before .before .before .before .before .before .blocks-of .result) (c .before .before .before .before .before .before .blocks-of .ensures .0) (c .before .before .before .before .before .before .blocks-of .ensures .1) (c .before .before .before .before .before .block-of .result) (c .before .before .before .before .before .block-of .ensures) (c .before .before .before .before .in-block .result) (c .before .before .before .before .in-block .ensures) .1))
 
--- src/lib.rt:44:54
 sum-lengths-requires : tie.Need-sum-lengths-requires
 sum-lengths-requires c κs = (c .before .before .before .before .before .before .before .blocks-of .ensures .1 .width-least, c .before .before .before .before .before .before .before .blocks-of .ensures .1 .width-most, omega (arith, number-inside (now (c .before .before .before .before .before .before .before .before .before .args .file)) (c .before .before .before .before .before .before .before .before .before .args .v) (c .before .before .before .before .before .before .before .before .before .pre .0) (all-bytes (now (c .before .before .before .before .before .before .before .before .before .args .file)) (λ i. c .before .before .before .before .before .before .before .before .shared-slice-known .given i .fits)) (c .before .before .before .before .before .before .before .before .before .args .f) (c .before .before .before .before .before .before .before .before .before .pre .1) (is-blocked (c .before .before .before .before .before .before .before .before .before .args .f) (c .before .before .before .before .before .before .before .before .before .pre .2)) (c .before .before .before .before .before .before .before .blocks-of .result) (c .before .before .before .before .before .before .before .blocks-of .ensures .0) (c .before .before .before .before .before .before .before .blocks-of .ensures .1) (c .before .before .before .before .before .before .block-of .result) (c .before .before .before .before .before .before .block-of .ensures) (c .before .before .before .before .before .in-block .result) (c .before .before .before .before .before .in-block .ensures)), lengths-there (now (c .before .before .before .before .before .before .before .before .before .args .file)) (c .before .before .before .before .before .before .before .before .before .args .v) (c .before .before .before .before .before .before .before .before .before .pre .0) (all-bytes (now (c .before .before .before .before .before .before .before .before .before .args .file)) (λ i. c .before .before .before .before .before .before .before .before .shared-slice-known .given i .fits)) (c .before .before .before .before .before .before .before .before .before .args .f) (c .before .before .before .before .before .before .before .before .before .pre .1) (is-blocked (c .before .before .before .before .before .before .before .before .before .args .f) (c .before .before .before .before .before .before .before .before .before .pre .2)) (c .before .before .before .before .before .before .before .blocks-of .result) (c .before .before .before .before .before .before .before .blocks-of .ensures .0) (c .before .before .before .before .before .before .before .blocks-of .ensures .1) (c .before .before .before .before .before .before .block-of .result) (c .before .before .before .before .before .before .block-of .ensures) (c .before .before .before .before .before .in-block .result) (c .before .before .before .before .before .in-block .ensures) (c .before .before .count-in .result) (c .before .types-size .result) (c .before .before .count-in .ensures .0) (c .before .types-size .ensures) .0)
 
--- src/lib.rt:44:17
 add-start : tie.Need-add-start
 add-start c = omega (arith, start-fits (now (c .before .before .before .before .before .before .before .before .before .before .args .file)) (c .before .before .before .before .before .before .before .before .before .before .args .v) (c .before .before .before .before .before .before .before .before .before .before .pre .0) (all-bytes (now (c .before .before .before .before .before .before .before .before .before .before .args .file)) (λ i. c .before .before .before .before .before .before .before .before .before .shared-slice-known .given i .fits)) (c .before .before .before .before .before .before .before .before .before .before .args .f) (c .before .before .before .before .before .before .before .before .before .before .pre .1) (is-blocked (c .before .before .before .before .before .before .before .before .before .before .args .f) (c .before .before .before .before .before .before .before .before .before .before .pre .2)) (c .before .before .before .before .before .before .before .before .blocks-of .result) (c .before .before .before .before .before .before .before .before .blocks-of .ensures .0) (c .before .before .before .before .before .before .before .before .blocks-of .ensures .1) (c .before .before .before .before .before .before .before .block-of .result) (c .before .before .before .before .before .before .before .block-of .ensures) (c .before .before .before .before .before .before .in-block .result) (c .before .before .before .before .before .before .in-block .ensures) (c .before .before .before .count-in .result) (c .before .before .types-size .result) (c .before .before .before .count-in .ensures .0) (c .before .before .types-size .ensures) (c .before .number-at .result) (c .sum-lengths .result) (c .before .number-at .ensures .0) (c .sum-lengths .ensures .0))
 
--- src/lib.rt:45:49
 mul-number-at-2 : tie.Need-mul-number-at-2
 mul-number-at-2 c = omega (arith, lengths-there (now (c .before .before .before .before .before .before .before .before .before .before .before .before .args .file)) (c .before .before .before .before .before .before .before .before .before .before .before .before .args .v) (c .before .before .before .before .before .before .before .before .before .before .before .before .pre .0) (all-bytes (now (c .before .before .before .before .before .before .before .before .before .before .before .before .args .file)) (λ i. c .before .before .before .before .before .before .before .before .before .before .before .shared-slice-known .given i .fits)) (c .before .before .before .before .before .before .before .before .before .before .before .before .args .f) (c .before .before .before .before .before .before .before .before .before .before .before .before .pre .1) (is-blocked (c .before .before .before .before .before .before .before .before .before .before .before .before .args .f) (c .before .before .before .before .before .before .before .before .before .before .before .before .pre .2)) (c .before .before .before .before .before .before .before .before .before .before .blocks-of .result) (c .before .before .before .before .before .before .before .before .before .before .blocks-of .ensures .0) (c .before .before .before .before .before .before .before .before .before .before .blocks-of .ensures .1) (c .before .before .before .before .before .before .before .before .before .block-of .result) (c .before .before .before .before .before .before .before .before .before .block-of .ensures) (c .before .before .before .before .before .before .before .before .in-block .result) (c .before .before .before .before .before .before .before .before .in-block .ensures) (c .before .before .before .before .before .count-in .result) (c .before .before .before .before .types-size .result) (c .before .before .before .before .before .count-in .ensures .0) (c .before .before .before .before .types-size .ensures) .0)
 
--- src/lib.rt:45:39
 add-number-at-2 : tie.Need-add-number-at-2
 add-number-at-2 c = omega (arith, lengths-there (now (c .before .before .before .before .before .before .before .before .before .before .before .before .args .file)) (c .before .before .before .before .before .before .before .before .before .before .before .before .args .v) (c .before .before .before .before .before .before .before .before .before .before .before .before .pre .0) (all-bytes (now (c .before .before .before .before .before .before .before .before .before .before .before .before .args .file)) (λ i. c .before .before .before .before .before .before .before .before .before .before .before .shared-slice-known .given i .fits)) (c .before .before .before .before .before .before .before .before .before .before .before .before .args .f) (c .before .before .before .before .before .before .before .before .before .before .before .before .pre .1) (is-blocked (c .before .before .before .before .before .before .before .before .before .before .before .before .args .f) (c .before .before .before .before .before .before .before .before .before .before .before .before .pre .2)) (c .before .before .before .before .before .before .before .before .before .before .blocks-of .result) (c .before .before .before .before .before .before .before .before .before .before .blocks-of .ensures .0) (c .before .before .before .before .before .before .before .before .before .before .blocks-of .ensures .1) (c .before .before .before .before .before .before .before .before .before .block-of .result) (c .before .before .before .before .before .before .before .before .before .block-of .ensures) (c .before .before .before .before .before .before .before .before .in-block .result) (c .before .before .before .before .before .before .before .before .in-block .ensures) (c .before .before .before .before .before .count-in .result) (c .before .before .before .before .types-size .result) (c .before .before .before .before .before .count-in .ensures .0) (c .before .before .before .before .types-size .ensures) .0)
 
--- src/lib.rt:45:23
 number-at-requires-2 : tie.Need-number-at-requires-2
 number-at-requires-2 c κs = (omega (arith, c .before .before .before .before .before .before .before .before .before .before .blocks-of .ensures .1 .width-most), lengths-there (now (c .before .before .before .before .before .before .before .before .before .before .before .before .args .file)) (c .before .before .before .before .before .before .before .before .before .before .before .before .args .v) (c .before .before .before .before .before .before .before .before .before .before .before .before .pre .0) (all-bytes (now (c .before .before .before .before .before .before .before .before .before .before .before .before .args .file)) (λ i. c .before .before .before .before .before .before .before .before .before .before .before .shared-slice-known .given i .fits)) (c .before .before .before .before .before .before .before .before .before .before .before .before .args .f) (c .before .before .before .before .before .before .before .before .before .before .before .before .pre .1) (is-blocked (c .before .before .before .before .before .before .before .before .before .before .before .before .args .f) (c .before .before .before .before .before .before .before .before .before .before .before .before .pre .2)) (c .before .before .before .before .before .before .before .before .before .before .blocks-of .result) (c .before .before .before .before .before .before .before .before .before .before .blocks-of .ensures .0) (c .before .before .before .before .before .before .before .before .before .before .blocks-of .ensures .1) (c .before .before .before .before .before .before .before .before .before .block-of .result) (c .before .before .before .before .before .before .before .before .before .block-of .ensures) (c .before .before .before .before .before .before .before .before .in-block .result) (c .before .before .before .before .before .before .before .before .in-block .ensures) (c .before .before .before .before .before .count-in .result) (c .before .before .before .before .types-size .result) (c .before .before .before .before .before .count-in .ensures .0) (c .before .before .before .before .types-size .ensures) .1)
 
--- src/lib.rt:45:15
 add-end : tie.Need-add-end
 add-end c = omega (arith, sums-fit (now (c .before .before .before .before .before .before .before .before .before .before .before .before .before .args .file)) (c .before .before .before .before .before .before .before .before .before .before .before .before .before .args .v) (c .before .before .before .before .before .before .before .before .before .before .before .before .before .pre .0) (all-bytes (now (c .before .before .before .before .before .before .before .before .before .before .before .before .before .args .file)) (λ i. c .before .before .before .before .before .before .before .before .before .before .before .before .shared-slice-known .given i .fits)) (c .before .before .before .before .before .before .before .before .before .before .before .before .before .args .f) (c .before .before .before .before .before .before .before .before .before .before .before .before .before .pre .1) (is-blocked (c .before .before .before .before .before .before .before .before .before .before .before .before .before .args .f) (c .before .before .before .before .before .before .before .before .before .before .before .before .before .pre .2)) (c .before .before .before .before .before .before .before .before .before .before .before .blocks-of .result) (c .before .before .before .before .before .before .before .before .before .before .before .blocks-of .ensures .0) (c .before .before .before .before .before .before .before .before .before .before .before .blocks-of .ensures .1) (c .before .before .before .before .before .before .before .before .before .before .block-of .result) (c .before .before .before .before .before .before .before .before .before .before .block-of .ensures) (c .before .before .before .before .before .before .before .before .before .in-block .result) (c .before .before .before .before .before .before .before .before .before .in-block .ensures) (c .before .before .before .before .before .before .count-in .result) (c .before .before .before .before .before .types-size .result) (c .before .before .before .before .before .before .count-in .ensures .0) (c .before .before .before .before .before .types-size .ensures) (c .before .before .before .before .number-at .result) (c .before .before .before .sum-lengths .result) (c .number-at2 .result) (c .before .before .before .before .number-at .ensures .0) (c .before .before .before .sum-lengths .ensures .0) (c .number-at2 .ensures .0))
 
--- src/lib.rt:49:15
 type-at-requires : tie.Need-type-at-requires
 type-at-requires c κs = type-there (now (c .before .before .before .before .before .before .before .before .before .before .before .before .before .args .file)) (c .before .before .before .before .before .before .before .before .before .before .before .before .before .args .v) (c .before .before .before .before .before .before .before .before .before .before .before .before .before .pre .0) (all-bytes (now (c .before .before .before .before .before .before .before .before .before .before .before .before .before .args .file)) (λ i. c .before .before .before .before .before .before .before .before .before .before .before .before .shared-slice-known .given i .fits)) (c .before .before .before .before .before .before .before .before .before .before .before .before .before .args .f) (c .before .before .before .before .before .before .before .before .before .before .before .before .before .pre .1) (is-blocked (c .before .before .before .before .before .before .before .before .before .before .before .before .before .args .f) (c .before .before .before .before .before .before .before .before .before .before .before .before .before .pre .2)) (c .before .before .before .before .before .before .before .before .before .before .before .blocks-of .result) (c .before .before .before .before .before .before .before .before .before .before .before .blocks-of .ensures .0) (c .before .before .before .before .before .before .before .before .before .before .before .blocks-of .ensures .1) (c .before .before .before .before .before .before .before .before .before .before .block-of .result) (c .before .before .before .before .before .before .before .before .before .before .block-of .ensures) (c .before .before .before .before .before .before .before .before .before .in-block .result) (c .before .before .before .before .before .before .before .before .before .in-block .ensures)
 
--- src/lib.rt:35:1
 returns : tie.Need-returns
 returns c = block-place-is (now (c .before .before .before .before .before .before .before .before .before .before .before .before .before .before .args .file)) (c .before .before .before .before .before .before .before .before .before .before .before .before .before .before .args .v) (c .before .before .before .before .before .before .before .before .before .before .before .before .before .before .pre .0) (all-bytes (now (c .before .before .before .before .before .before .before .before .before .before .before .before .before .before .args .file)) (λ i. c .before .before .before .before .before .before .before .before .before .before .before .before .before .shared-slice-known .given i .fits)) (c .before .before .before .before .before .before .before .before .before .before .before .before .before .before .args .f) (c .before .before .before .before .before .before .before .before .before .before .before .before .before .before .pre .1) (is-blocked (c .before .before .before .before .before .before .before .before .before .before .before .before .before .before .args .f) (c .before .before .before .before .before .before .before .before .before .before .before .before .before .before .pre .2)) (c .before .before .before .before .before .before .before .before .before .before .before .before .blocks-of .result) (c .before .before .before .before .before .before .before .before .before .before .before .before .blocks-of .ensures .0) (c .before .before .before .before .before .before .before .before .before .before .before .before .blocks-of .ensures .1) (c .before .before .before .before .before .before .before .before .before .before .before .block-of .result) (c .before .before .before .before .before .before .before .before .before .before .before .block-of .ensures) (c .before .before .before .before .before .before .before .before .before .before .in-block .result) (c .before .before .before .before .before .before .before .before .before .before .in-block .ensures) (c .before .before .before .before .before .before .before .count-in .result) (c .before .before .before .before .before .before .types-size .result) (c .before .before .before .before .before .before .before .count-in .ensures .0) (c .before .before .before .before .before .before .types-size .ensures) (c .before .before .before .before .before .number-at .result) (c .before .before .before .before .sum-lengths .result) (c .before .number-at2 .result) (c .type-at .result) (c .before .before .before .before .before .number-at .ensures .0) (c .before .before .before .before .sum-lengths .ensures .0) (c .before .number-at2 .ensures .0) (c .type-at .ensures)
 

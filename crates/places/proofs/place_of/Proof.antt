@@ -1,3 +1,5 @@
+-- `places::place_of` meets its contract.
+-- Assumes nothing.
 use Rattle.places.proofs.AcceptedLaws.{long, most, samples-most, plain-place, plain-small}
 use Rattle.blocks.proofs.Sizes.{all-bytes}
 use denote.Ref.{now}
@@ -5,45 +7,31 @@ use native.Mathlib.Omega.{arith}
 use borrow.Author.Needs.{needs}
 use Rattle.places.proofs.place_of.Statement.{statement}
 use Rattle.places.proofs.place_of.Tie as tie
-use Rattle.places.proofs.place_of.Reads as reads
-use Rattle.places.proofs.place_of.Lts as lts
-use Rattle.blocks.proofs.fields_at.Reads as fields-at-reads
-use Rattle.blocks.proofs.header_end.Reads as header-end-reads
-use Rattle.places.proofs.place_in_block.Reads as place-in-block-reads
 
--- src/lib.rt:58:9
 fields-at-requires : tie.Need-fields-at-requires
 fields-at-requires c κs = long (now (c .before .args .file)) (c .before .pre .layout) (c .before .pre .accepted)
 
--- src/lib.rt:61:21
 add-size : tie.Need-add-size
 add-size c = omega (arith, samples-most (now (c .before .before .before .before .before .args .file)) (c .before .before .before .before .before .args .v) (c .before .before .before .before .before .pre) (all-bytes (now (c .before .before .before .before .before .args .file)) (λ i. c .before .before .before .before .shared-slice-known .given i .fits)) (c .before .before .before .fields-at .result) (c .before .before .before .fields-at .ensures))
 
--- src/lib.rt:62:21
 header-end-requires : tie.Need-header-end-requires
 header-end-requires c κs = most (now (c .before .before .before .before .before .args .file)) (c .before .before .before .before .before .args .v) (c .before .before .before .before .before .pre) (all-bytes (now (c .before .before .before .before .before .args .file)) (λ i. c .before .before .before .before .shared-slice-known .given i .fits)) (c .before .before .before .fields-at .result) (c .before .before .before .fields-at .ensures)
 
--- src/lib.rt:62:37
 mul-start : tie.Need-mul-start
 mul-start c = omega (arith, plain-small (now (c .before .before .before .before .before .before .before .args .file)) (c .before .before .before .before .before .before .before .args .v) (c .before .before .before .before .before .before .before .pre) (all-bytes (now (c .before .before .before .before .before .before .before .args .file)) (λ i. c .before .before .before .before .before .before .shared-slice-known .given i .fits)) (c .before .before .before .before .before .fields-at .result) (c .before .before .before .before .before .fields-at .ensures) (c .before .before .before .if1 .taken))
 
--- src/lib.rt:62:21
 add-start : tie.Need-add-start
 add-start c = omega (arith, plain-small (now (c .before .before .before .before .before .before .before .args .file)) (c .before .before .before .before .before .before .before .args .v) (c .before .before .before .before .before .before .before .pre) (all-bytes (now (c .before .before .before .before .before .before .before .args .file)) (λ i. c .before .before .before .before .before .before .shared-slice-known .given i .fits)) (c .before .before .before .before .before .fields-at .result) (c .before .before .before .before .before .fields-at .ensures) (c .before .before .before .if1 .taken), c .before .header-end .ensures .1)
 
--- src/lib.rt:65:18
 add-t7 : tie.Need-add-t7
 add-t7 c = omega (arith, plain-small (now (c .before .before .before .before .before .before .before .args .file)) (c .before .before .before .before .before .before .before .args .v) (c .before .before .before .before .before .before .before .pre) (all-bytes (now (c .before .before .before .before .before .before .before .args .file)) (λ i. c .before .before .before .before .before .before .shared-slice-known .given i .fits)) (c .before .before .before .before .before .fields-at .result) (c .before .before .before .before .before .fields-at .ensures) (c .before .before .before .if1 .taken), c .before .header-end .ensures .1, samples-most (now (c .before .before .before .before .before .before .before .args .file)) (c .before .before .before .before .before .before .before .args .v) (c .before .before .before .before .before .before .before .pre) (all-bytes (now (c .before .before .before .before .before .before .before .args .file)) (λ i. c .before .before .before .before .before .before .shared-slice-known .given i .fits)) (c .before .before .before .before .before .fields-at .result) (c .before .before .before .before .before .fields-at .ensures))
 
--- src/lib.rt:63:9
 returns : tie.Need-returns
 returns c = plain-place (now (c .before .before .before .before .before .before .before .args .file)) (c .before .before .before .before .before .before .before .args .v) (c .before .before .before .before .before .before .before .pre) (all-bytes (now (c .before .before .before .before .before .before .before .args .file)) (λ i. c .before .before .before .before .before .before .shared-slice-known .given i .fits)) (c .before .before .before .before .before .fields-at .result) (c .before .before .before .before .before .fields-at .ensures) (c .before .before .before .if1 .taken) (c .before .header-end .result) (c .before .header-end .ensures .0)
 
--- src/lib.rt:69:5
 place-in-block-requires : tie.Need-place-in-block-requires
 place-in-block-requires c κs = search needs
 
--- src/lib.rt:54:1
 returns-2 : tie.Need-returns-2
 returns-2 c = search needs
 

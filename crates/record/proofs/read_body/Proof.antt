@@ -2,10 +2,6 @@ use Rattle.record.proofs.BodyLaws.{track-refused, track-ended, track-le
 use borrow.Author.Needs.{needs}
 use Rattle.record.proofs.read_body.Statement.{statement}
 use Rattle.record.proofs.read_body.Tie as tie
-use Rattle.record.proofs.read_body.Reads as reads
-use Rattle.record.proofs.read_body.Lts as lts
-use Rattle.packed.proofs.clear.Reads as clear-reads
-use Rattle.record.proofs.read_track.Reads as read-track-reads
 
 -- src/lib.rt:131:9
 read-track-requires : tie.Need-read-track-requires
@@ -33,7 +29,15 @@ same-length c = search needs
 
 -- src/lib.rt:141:17
 returns : tie.Need-returns
-returns c = track-left (c .before .before .before .before .before .before .before .before .before .before .before .before .before .before .args .s .now) (c .before .before .before .before .before .before .before .before .before .before .before .before .before .before .args .start) (c .before .before .before .before .before .before .before .before .before .before .before .before .before .before .args .n) (c .before .before .before .before .before .before .before .before .before .before .before .before .before .before .args .number) (c .before .before .before .before .before .before .before .before .before .before .before .before .before .before .args .keep) (c .before .before .before .before .before .before .before .before .before .before .before .before .before .before .args .row .now) (λ i. c .before .before .before .before .before .before .before .before .before .before .before .before .before .shared-slice-known .given i .fits) (c .before .before .before .before .before .before .before .before .before .before .before .before .before .before .pre .0 .0) (c .before .before .before .before .before .before .before .before .before .before .before .before .before .before .pre .0 .2) (c .before .before .before .before .before .before .before .before .before .before .read-track .result) (c .before .before .before .before .before .before .before .before .before .before .read-track .last .1 .1 .1 .1 .1 .0) (c .before .before .before .before .before .before .before .before .before .before .read-track .ensures) (c .before .before .before .before .before .before .got2 .given .0 .0) _ (c .before .before .before .before .before .before .got2 .given .1) (c .before .before .before .before .if1 .taken) (c .before .before .clear2 .ensures)
+returns c =
+    let args = c .before .before .before .before .before .before .before .before .before .before .before .before .before .before .args in
+    let pre = c .before .before .before .before .before .before .before .before .before .before .before .before .before .before .pre in
+    let read-track = c .before .before .before .before .before .before .before .before .before .before .read-track in
+    let got2 = c .before .before .before .before .before .before .got2 in
+    track-left (args .s .now) (args .start) (args .n) (args .number) (args .keep) (args .row .now)
+    (λ i. c .before .before .before .before .before .before .before .before .before .before .before .before .before .shared-slice-known .given i .fits)
+    (pre .0 .0) (pre .0 .2) (read-track .result) (read-track .last .1 .1 .1 .1 .1 .0) (read-track .ensures) (got2 .given .0 .0) _ (got2 .given .1)
+    (c .before .before .before .before .if1 .taken) (c .before .before .clear2 .ensures)
 
 -- src/lib.rt:126:1
 same-length-2 : tie.Need-same-length-2
@@ -41,7 +45,15 @@ same-length-2 c = search needs
 
 -- src/lib.rt:126:1
 returns-2 : tie.Need-returns-2
-returns-2 c = track-refused (c .before .before .before .before .before .before .before .before .before .before .before .before .before .args .s .now) (c .before .before .before .before .before .before .before .before .before .before .before .before .before .args .start) (c .before .before .before .before .before .before .before .before .before .before .before .before .before .args .n) (c .before .before .before .before .before .before .before .before .before .before .before .before .before .args .number) (c .before .before .before .before .before .before .before .before .before .before .before .before .before .args .keep) (c .before .before .before .before .before .before .before .before .before .before .before .before .before .args .row .now) (λ i. c .before .before .before .before .before .before .before .before .before .before .before .before .shared-slice-known .given i .fits) (c .before .before .before .before .before .before .before .before .before .before .before .before .before .pre .0 .0) (c .before .before .before .before .before .before .before .before .before .before .before .before .before .pre .0 .2) (c .before .before .before .before .before .before .before .before .before .read-track .result) (c .before .before .before .before .before .before .before .before .before .read-track .last .1 .1 .1 .1 .1 .0) (c .before .before .before .before .before .before .before .before .before .read-track .ensures) (c .before .before .before .before .before .got .given .0 .0) (c .before .before .before .before .before .got .given .0 .1 .0) _ (c .before .before .before .before .before .got .given .1) (c .before .before .clear .ensures)
+returns-2 c =
+    let args = c .before .before .before .before .before .before .before .before .before .before .before .before .before .args in
+    let pre = c .before .before .before .before .before .before .before .before .before .before .before .before .before .pre in
+    let read-track = c .before .before .before .before .before .before .before .before .before .read-track in
+    let got = c .before .before .before .before .before .got in
+    track-refused (args .s .now) (args .start) (args .n) (args .number) (args .keep) (args .row .now)
+    (λ i. c .before .before .before .before .before .before .before .before .before .before .before .before .shared-slice-known .given i .fits)
+    (pre .0 .0) (pre .0 .2) (read-track .result) (read-track .last .1 .1 .1 .1 .1 .0) (read-track .ensures) (got .given .0 .0) (got .given .0 .1 .0) _
+    (got .given .1) (c .before .before .clear .ensures)
 
 -- src/lib.rt:126:1
 same-length-3 : tie.Need-same-length-3
@@ -49,7 +61,14 @@ same-length-3 c = search needs
 
 -- src/lib.rt:126:1
 returns-3 : tie.Need-returns-3
-returns-3 c = track-ended (c .before .before .before .before .before .before .before .before .before .before .args .s .now) (c .before .before .before .before .before .before .before .before .before .before .args .start) (c .before .before .before .before .before .before .before .before .before .before .args .n) (c .before .before .before .before .before .before .before .before .before .before .args .number) (c .before .before .before .before .before .before .before .before .before .before .args .keep) (c .before .before .before .before .before .before .before .before .before .before .args .row .now) (λ i. c .before .before .before .before .before .before .before .before .before .shared-slice-known .given i .fits) (c .before .before .before .before .before .before .before .before .before .before .pre .0 .0) (c .before .before .before .before .before .before .before .before .before .before .pre .0 .2) (c .before .before .before .before .before .before .read-track .result) (c .before .before .before .before .before .before .read-track .last .1 .1 .1 .1 .1 .0) (c .before .before .before .before .before .before .read-track .ensures) (c .before .before .got2 .given .0 .0) (c .before .before .got2 .given .1) (c .if1 .left)
+returns-3 c =
+    let args = c .before .before .before .before .before .before .before .before .before .before .args in
+    let pre = c .before .before .before .before .before .before .before .before .before .before .pre in
+    let read-track = c .before .before .before .before .before .before .read-track in
+    let got2 = c .before .before .got2 in
+    track-ended (args .s .now) (args .start) (args .n) (args .number) (args .keep) (args .row .now)
+    (λ i. c .before .before .before .before .before .before .before .before .before .shared-slice-known .given i .fits) (pre .0 .0) (pre .0 .2)
+    (read-track .result) (read-track .last .1 .1 .1 .1 .1 .0) (read-track .ensures) (got2 .given .0 .0) (got2 .given .1) (c .if1 .left)
 
 pub read-body-spec : {M : Type 1} → statement M
 read-body-spec =

@@ -5,11 +5,6 @@ use mathlib.Core.Path.{sym, _∙_}
 use borrow.Author.Needs.{needs}
 use Rattle.record.proofs.read_pair.Statement.{statement}
 use Rattle.record.proofs.read_pair.Tie as tie
-use Rattle.record.proofs.read_pair.Reads as reads
-use Rattle.record.proofs.read_pair.Lts as lts
-use Rattle.cursor.proofs.Cursor.byte.Reads as byte-reads
-use Rattle.format.proofs.pair_of.Reads as pair-of-reads
-use Rattle.record.proofs.read_bits.Reads as read-bits-reads
 
 -- src/lib.rt:57:9
 byte-requires : tie.Need-byte-requires
@@ -37,15 +32,29 @@ enum-known-found c = search needs
 
 -- src/lib.rt:67:43
 read-bits-requires : tie.Need-read-bits-requires
-read-bits-requires c κs = let b = (byte-read (c .before .before .before .before .before .before .before .before .before .before .before .args .s .now) (c .before .before .before .before .before .before .before .before .before .before .before .args .start) (c .before .before .before .before .before .before .got2 .given .0 .0) (c .before .before .before .before .before .before .got2 .given .0 .1 .0) (sym (c .before .before .before .before .before .before .got2 .given .1) ∙ c .before .before .before .before .before .before .before .before .byte .ensures)) in (rw (b .moved) (omega (arith, b .inside)), c .before .before .before .before .before .before .before .before .before .before .before .pre .1, c .before .before .before .before .before .before .before .before .before .before .before .pre .2)
+read-bits-requires c κs =
+    let args = c .before .before .before .before .before .before .before .before .before .before .before .args in
+    let pre = c .before .before .before .before .before .before .before .before .before .before .before .pre in
+    let got2 = c .before .before .before .before .before .before .got2 in
+    let b =
+    (byte-read (args .s .now) (args .start) (got2 .given .0 .0) (got2 .given .0 .1 .0) (sym (got2 .given .1) ∙ c .before .before .before .before .before .before .before .before .byte .ensures))
+    in (rw (b .moved) (omega (arith, b .inside)), pre .1, pre .2)
 
 -- src/lib.rt:52:1
 returns : tie.Need-returns
-returns c = no-code (c .before .before .before .before .before .before .args .s .now) (c .before .before .before .before .before .before .args .start) (c .before .before .before .before .before .before .args .n) (c .before .before .before .before .before .before .args .row .now) (c .before .got .given .0 .0) (c .before .got .given .0 .1 .0) (byte-refused (c .before .before .before .before .before .before .args .s .now) (c .before .before .before .before .before .before .args .start) (c .before .got .given .0 .0) (c .before .got .given .0 .1 .0) (sym (c .before .got .given .1) ∙ c .before .before .before .byte .ensures))
+returns c =
+    let args = c .before .before .before .before .before .before .args in
+    no-code (args .s .now) (args .start) (args .n) (args .row .now) (c .before .got .given .0 .0) (c .before .got .given .0 .1 .0)
+    (byte-refused (args .s .now) (args .start) (c .before .got .given .0 .0) (c .before .got .given .0 .1 .0) (sym (c .before .got .given .1) ∙ c .before .before .before .byte .ensures))
 
 -- src/lib.rt:52:1
 returns-2 : tie.Need-returns-2
-returns-2 c = unknown-code (c .before .before .before .before .before .before .before .before .before .args .s .now) (c .before .before .before .before .before .before .before .before .before .args .start) (c .before .before .before .before .before .before .before .before .before .args .n) (c .before .before .before .before .before .before .before .before .before .args .row .now) (c .before .before .before .before .got2 .given .0 .0) (c .before .before .before .before .got2 .given .0 .1 .0) (byte-read (c .before .before .before .before .before .before .before .before .before .args .s .now) (c .before .before .before .before .before .before .before .before .before .args .start) (c .before .before .before .before .got2 .given .0 .0) (c .before .before .before .before .got2 .given .0 .1 .0) (sym (c .before .before .before .before .got2 .given .1) ∙ c .before .before .before .before .before .before .byte .ensures)) (sym (c .enum-told .given .1) ∙ c .before .before .pair-of .ensures)
+returns-2 c =
+    let args = c .before .before .before .before .before .before .before .before .before .args in
+    let got2 = c .before .before .before .before .got2 in
+    unknown-code (args .s .now) (args .start) (args .n) (args .row .now) (got2 .given .0 .0) (got2 .given .0 .1 .0)
+    (byte-read (args .s .now) (args .start) (got2 .given .0 .0) (got2 .given .0 .1 .0) (sym (got2 .given .1) ∙ c .before .before .before .before .before .before .byte .ensures))
+    (sym (c .enum-told .given .1) ∙ c .before .before .pair-of .ensures)
 
 -- src/lib.rt:52:1
 same-length : tie.Need-same-length
@@ -53,7 +62,13 @@ same-length c = search needs
 
 -- src/lib.rt:52:1
 returns-3 : tie.Need-returns-3
-returns-3 c = rw (known-code (c .before .before .before .before .before .before .before .before .before .before .before .before .before .before .args .s .now) (c .before .before .before .before .before .before .before .before .before .before .before .before .before .before .args .start) (c .before .before .before .before .before .before .before .before .before .before .before .before .before .before .args .n) (c .before .before .before .before .before .before .before .before .before .before .before .before .before .before .args .row .now) (c .before .before .before .before .before .before .before .before .before .got2 .given .0 .0) (c .before .before .before .before .before .before .before .before .before .got2 .given .0 .1 .0) (byte-read (c .before .before .before .before .before .before .before .before .before .before .before .before .before .before .args .s .now) (c .before .before .before .before .before .before .before .before .before .before .before .before .before .before .args .start) (c .before .before .before .before .before .before .before .before .before .got2 .given .0 .0) (c .before .before .before .before .before .before .before .before .before .got2 .given .0 .1 .0) (sym (c .before .before .before .before .before .before .before .before .before .got2 .given .1) ∙ c .before .before .before .before .before .before .before .before .before .before .before .byte .ensures)) (c .before .before .before .before .before .found .given .0 .0) (sym (c .before .before .before .before .before .found .given .1) ∙ c .before .before .before .before .before .before .before .pair-of .ensures)) (c .before .before .read-bits .ensures)
+returns-3 c =
+    let args = c .before .before .before .before .before .before .before .before .before .before .before .before .before .before .args in
+    let got2 = c .before .before .before .before .before .before .before .before .before .got2 in
+    let found = c .before .before .before .before .before .found in
+    rw
+    (known-code (args .s .now) (args .start) (args .n) (args .row .now) (got2 .given .0 .0) (got2 .given .0 .1 .0) (byte-read (args .s .now) (args .start) (got2 .given .0 .0) (got2 .given .0 .1 .0) (sym (got2 .given .1) ∙ c .before .before .before .before .before .before .before .before .before .before .before .byte .ensures)) (found .given .0 .0) (sym (found .given .1) ∙ c .before .before .before .before .before .before .before .pair-of .ensures))
+    (c .before .before .read-bits .ensures)
 
 pub read-pair-spec : {M : Type 1} → statement M
 read-pair-spec =

@@ -2,10 +2,6 @@ use Rattle.record.proofs.ListLaws.{sparse-stored}
 use borrow.Author.Needs.{needs}
 use Rattle.record.proofs.read_sparse.Statement.{statement}
 use Rattle.record.proofs.read_sparse.Tie as tie
-use Rattle.record.proofs.read_sparse.Reads as reads
-use Rattle.record.proofs.read_sparse.Lts as lts
-use Rattle.difflist.proofs.apply_list.Reads as apply-list-reads
-use Rattle.packed.proofs.fill.Reads as fill-reads
 
 -- src/lib.rt:101:5
 fill-requires : tie.Need-fill-requires
@@ -21,7 +17,11 @@ same-length c = search needs
 
 -- src/lib.rt:97:1
 returns : tie.Need-returns
-returns c = sparse-stored (c .before .before .before .before .before .before .before .before .before .before .args .s .now) (c .before .before .before .before .before .before .before .before .before .before .args .start) (c .before .before .before .before .before .before .before .before .before .before .args .n) (c .before .before .before .before .before .before .before .before .before .before .args .category) (c .before .before .before .before .before .before .before .before .before .before .args .row .now) (c .before .before .before .before .before .before .fill .last .0) (c .before .before .before .before .before .before .fill .ensures) _ (c .before .before .apply-list .ensures)
+returns c =
+    let args = c .before .before .before .before .before .before .before .before .before .before .args in
+    let fill = c .before .before .before .before .before .before .fill in
+    sparse-stored (args .s .now) (args .start) (args .n) (args .category) (args .row .now) (fill .last .0) (fill .ensures) _
+    (c .before .before .apply-list .ensures)
 
 pub read-sparse-spec : {M : Type 1} → statement M
 read-sparse-spec = tie.close (tie.spec fill-requires apply-list-requires same-length returns)

@@ -2,12 +2,6 @@ use Rattle.record.proofs.BodyLaws.{of-array, of-paired, of-leaning, of-
 use borrow.Author.Needs.{needs}
 use Rattle.record.proofs.read_track.Statement.{statement}
 use Rattle.record.proofs.read_track.Tie as tie
-use Rattle.record.proofs.read_track.Reads as reads
-use Rattle.record.proofs.read_track.Lts as lts
-use Rattle.record.proofs.read_array.Reads as read-array-reads
-use Rattle.record.proofs.read_leaning.Reads as read-leaning-reads
-use Rattle.record.proofs.read_pair.Reads as read-pair-reads
-use Rattle.record.proofs.read_sparse.Reads as read-sparse-reads
 
 -- src/lib.rt:113:9
 read-array-requires : tie.Need-read-array-requires
@@ -19,7 +13,10 @@ same-length c = search needs
 
 -- src/lib.rt:113:9
 returns : tie.Need-returns
-returns c = of-array (c .before .before .before .before .before .before .before .args .s .now) (c .before .before .before .before .before .before .before .args .start) (c .before .before .before .before .before .before .before .args .n) (c .before .before .before .before .before .before .before .args .number) (c .before .before .before .before .before .before .before .args .keep) (c .before .before .before .before .before .before .before .args .row .now) _ (c .before .before .before .before .if1 .taken) (c .before .before .read-array .ensures)
+returns c =
+    let args = c .before .before .before .before .before .before .before .args in
+    of-array (args .s .now) (args .start) (args .n) (args .number) (args .keep) (args .row .now) _ (c .before .before .before .before .if1 .taken)
+    (c .before .before .read-array .ensures)
 
 -- src/lib.rt:116:9
 read-pair-requires : tie.Need-read-pair-requires
@@ -31,7 +28,10 @@ same-length-2 c = search needs
 
 -- src/lib.rt:116:9
 returns-2 : tie.Need-returns-2
-returns-2 c = of-paired (c .before .before .before .before .before .before .before .before .args .s .now) (c .before .before .before .before .before .before .before .before .args .start) (c .before .before .before .before .before .before .before .before .args .n) (c .before .before .before .before .before .before .before .before .args .number) (c .before .before .before .before .before .before .before .before .args .keep) (c .before .before .before .before .before .before .before .before .args .row .now) _ (c .before .before .before .before .if2 .taken) (c .before .before .read-pair .ensures)
+returns-2 c =
+    let args = c .before .before .before .before .before .before .before .before .args in
+    of-paired (args .s .now) (args .start) (args .n) (args .number) (args .keep) (args .row .now) _ (c .before .before .before .before .if2 .taken)
+    (c .before .before .read-pair .ensures)
 
 -- src/lib.rt:119:9
 read-leaning-requires : tie.Need-read-leaning-requires
@@ -43,7 +43,11 @@ same-length-3 c = search needs
 
 -- src/lib.rt:119:9
 returns-3 : tie.Need-returns-3
-returns-3 c = of-leaning (c .before .before .before .before .before .before .before .before .before .args .s .now) (c .before .before .before .before .before .before .before .before .before .args .start) (c .before .before .before .before .before .before .before .before .before .args .n) (c .before .before .before .before .before .before .before .before .before .args .number) (c .before .before .before .before .before .before .before .before .before .args .keep) (c .before .before .before .before .before .before .before .before .before .args .row .now) _ (c .before .before .before .before .before .before .if1 .left) (c .before .before .before .before .before .if2 .left) (c .before .before .before .before .if3 .taken) (c .before .before .read-leaning .ensures)
+returns-3 c =
+    let args = c .before .before .before .before .before .before .before .before .before .args in
+    of-leaning (args .s .now) (args .start) (args .n) (args .number) (args .keep) (args .row .now) _
+    (c .before .before .before .before .before .before .if1 .left) (c .before .before .before .before .before .if2 .left)
+    (c .before .before .before .before .if3 .taken) (c .before .before .read-leaning .ensures)
 
 -- src/lib.rt:121:5
 read-sparse-requires : tie.Need-read-sparse-requires
@@ -55,7 +59,11 @@ same-length-4 c = search needs
 
 -- src/lib.rt:107:1
 returns-4 : tie.Need-returns-4
-returns-4 c = of-sparse (c .before .before .before .before .before .before .before .before .before .args .s .now) (c .before .before .before .before .before .before .before .before .before .args .start) (c .before .before .before .before .before .before .before .before .before .args .n) (c .before .before .before .before .before .before .before .before .before .args .number) (c .before .before .before .before .before .before .before .before .before .args .keep) (c .before .before .before .before .before .before .before .before .before .args .row .now) _ (c .before .before .before .before .if3 .left) (c .before .before .before .before .before .before .before .before .before .pre .1 .0) (c .before .before .before .before .before .before .before .before .before .pre .1 .1) (c .before .before .read-sparse .ensures)
+returns-4 c =
+    let args = c .before .before .before .before .before .before .before .before .before .args in
+    let pre = c .before .before .before .before .before .before .before .before .before .pre in
+    of-sparse (args .s .now) (args .start) (args .n) (args .number) (args .keep) (args .row .now) _ (c .before .before .before .before .if3 .left)
+    (pre .1 .0) (pre .1 .1) (c .before .before .read-sparse .ensures)
 
 pub read-track-spec : {M : Type 1} → statement M
 read-track-spec =

@@ -1,4 +1,4 @@
--- `types::nearest_before` meets its contract.
+-- `types::nearest_before` meets its contract: the loop's invariant is `Backing`.
 -- Assumes nothing.
 use Rattle.types.proofs.Back.{Backing, goes-on, stops, ends}
 use Rattle.types.proofs.Types.{stands}

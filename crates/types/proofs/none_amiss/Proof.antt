@@ -1,4 +1,4 @@
--- `types::none_amiss` meets its contract.
+-- `types::none_amiss` meets its contract: the loop's invariant is `Flat`.
 -- Assumes nothing.
 use Rattle.types.proofs.Flat.{Flat, starts, goes-on, ends}
 use Rattle.format.specs.Packed.{four, eight}

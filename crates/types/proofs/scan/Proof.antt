@@ -1,4 +1,4 @@
--- `types::scan` meets its contract.
+-- `types::scan` meets its contract: the loop's invariant is `Scanning`.
 -- Assumes nothing.
 use Rattle.types.proofs.Scanning.{Scanning, starts, goes-on, stops, ends}
 use Rattle.types.proofs.Types.{stands}

@@ -1,0 +1,3 @@
+pub mod EditLaws
+pub mod BodyLaws
+pub mod Ways

@@ -1,0 +1,2 @@
+pub mod MaskLaws
+pub mod ChangedLaws

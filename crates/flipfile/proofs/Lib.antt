@@ -1,0 +1,8 @@
+pub mod PutLaws
+pub mod TypesLaws
+pub mod BodiesLaws
+pub mod FoundLaws
+pub mod FileLaw
+pub mod Ways
+pub mod Turns
+pub mod AcceptedLaws

@@ -1,0 +1,75 @@
+// The head of a case.
+ghost use Prim.Native.Nat.{_<_, _≤_};
+
+pub struct Case {
+    pub call: u8,
+    pub x: usize,
+    pub y: usize,
+    pub first: usize,
+    pub second: usize,
+    pub output: usize,
+    pub work: usize,
+}
+
+// The byte at a place of the head, or 0 past its end.
+fn byte(head: &[u8], at: usize) -> usize
+    ensures { λ r. ⌜ r < 256 ⌝ }
+{
+    if at < head.len() {
+        return head[at] as usize;
+    }
+    0
+}
+
+// The little-endian numbers of four and of eight bytes.
+fn four(head: &[u8], at: usize) -> usize
+    requires { ⌜ at ≤ 33 ⌝ }
+    ensures { λ r. ⌜ r < 4294967296 ⌝ }
+{
+    byte(head, at)
+        + 256 * byte(head, at + 1)
+        + 65536 * byte(head, at + 2)
+        + 16777216 * byte(head, at + 3)
+}
+
+fn eight(head: &[u8], at: usize) -> usize
+    requires { ⌜ at ≤ 20 ⌝ }
+{
+    four(head, at) + 4294967296 * four(head, at + 4)
+}
+
+fn call_of(head: &[u8]) -> u8 {
+    if 0 < head.len() { head[0] } else { 0 }
+}
+
+pub fn case_of(head: &[u8]) -> Case {
+    Case {
+        call: call_of(head),
+        x: eight(head, 1),
+        y: eight(head, 9),
+        first: four(head, 17),
+        second: four(head, 21),
+        output: four(head, 25),
+        work: four(head, 29),
+    }
+}
+
+// Limits: the first string up to 524,288 bytes; the second, the output and the work area up to 131,072 each.
+pub fn allowed(c: Case) -> bool {
+    if c.call == 0 {
+        return false;
+    }
+    if 7 < c.call {
+        return false;
+    }
+    if 524288 < c.first {
+        return false;
+    }
+    if 131072 < c.second {
+        return false;
+    }
+    if 131072 < c.output {
+        return false;
+    }
+    c.work <= 131072
+}
