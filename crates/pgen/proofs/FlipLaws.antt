@@ -15,7 +15,7 @@ use Rattle.format.specs.Base.{Bytes, ok, refuse}
 use Rattle.format.specs.Body.{Body}
 use Rattle.format.specs.Layout.{most-variants, Layout}
 use Rattle.format.specs.Header.{read-layout}
-use Rattle.format.specs.File.{File, file-of, read-all, read-file, flip-bytes}
+use Rattle.format.specs.File.{file-of, read-all, read-file, flip-bytes}
 use Rattle.format.specs.Reply.{keeps-work, header-left, header-call, member, past-last, flip-left, flip-call}
 use Rattle.format.proofs.Rules.{Holds}
 use Rattle.format.proofs.Refuses.{Refuses, Within}

@@ -3,4 +3,5 @@ pub mod WorkLaws
 pub mod CheckLaws
 pub mod ReadLaws
 pub mod FlipLaws
+pub mod FlipPromises
 pub mod Unique

@@ -100,8 +100,8 @@ pub check-unique : (file work work₁ work₂ : List ℕ) (r s : HeaderReply) �
 unfolding check-call
 check-unique file work work₁ work₂ r s y p q = (
   check-replies (check-out 65536 file work)
-  (refuses-weaken CheckNumber (λ (number : ℕ). 1 ≤ number) (check-out 65536 file work) check-numbers (check-refusals 65536 file work (lit< tt) y))
-  (checked-some file work y) r s (ap (λ (z : Checked). z .reply) p) (ap (λ (z : Checked). z .reply) q),
+      (refuses-weaken CheckNumber (λ (number : ℕ). 1 ≤ number) (check-out 65536 file work) check-numbers (check-refusals 65536 file work (lit< tt) y))
+      (checked-some file work y) r s (ap (λ (z : Checked). z .reply) p) (ap (λ (z : Checked). z .reply) q),
   ap (λ (z : Checked). z .work) (p ∙ sym q),
 )
 

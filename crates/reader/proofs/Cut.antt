@@ -30,7 +30,7 @@ use Rattle.blocks.specs.declared.Fields.{Fields}
 use Rattle.blocks.specs.Parts.{fixed, fields-of}
 use Rattle.places.specs.declared.Place.{Place}
 use Rattle.places.specs.Located.{HasVariant, place-in}
-use Rattle.places.proofs.AcceptedLaws.{same-place, record-ends}
+use Rattle.places.proofs.AcceptedLaws.{record-ends}
 use Rattle.places.proofs.FromReply.{part-is}
 use Rattle.record.specs.Recorded.{replied, recorded}
 

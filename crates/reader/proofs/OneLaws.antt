@@ -11,14 +11,14 @@ use Rattle.format.specs.declared.FileVariant.{FileVariant}
 use Rattle.format.specs.Base.{pick, Bytes, Out, ok, refuse, bind, map-out}
 use Rattle.format.specs.Track.{leans}
 use Rattle.format.specs.Body.{Body, read-body, body-categories}
-use Rattle.format.specs.Variant.{file-variant, next-variant, block-of, anchor}
+use Rattle.format.specs.Variant.{next-variant, block-of, anchor}
 use Rattle.format.specs.Layout.{Layout, record-start}
 use Rattle.format.specs.Header.{read-layout}
 use Rattle.format.specs.File.{type-of, read-over, read-variant}
 use Rattle.format.proofs.AnchorLaws.{IsAnchor, anchor-is}
 use Rattle.format.proofs.FileLaws.{one-type-each}
 use Rattle.format.proofs.InOrderLaws.{stands-alike}
-use Rattle.format.proofs.RecordTurns.{record-over, row-after, row-carried}
+use Rattle.format.proofs.RecordTurns.{record-over, row-carried}
 use Rattle.places.specs.declared.Place.{Place}
 use Rattle.places.specs.Located.{place-in}
 use Rattle.places.proofs.AcceptedLaws.{one-layout}

@@ -2,14 +2,13 @@
 -- Assumes nothing.
 use mathlib.Core.Path.{_≡_, refl, sym, ap, ap₂, _∙_}
 use Prim.Native.Nat.{ℕ, suc}
-use mathlib.Core.List.{List, _++_}
-use lib.ListN.{drop}
+use mathlib.Core.List.{List}
 use native.Mathlib.Omega.{arith}
 use Rattle.format.specs.Base.{Out, ok, refuse}
 use Rattle.record.specs.declared.RecordReply.{RecordReply}
 use Rattle.record.specs.declared.RecordReply.the-variants.{Accepted, Refused}
 use Rattle.record.specs.Recorded.{Outcome, done}
-use Rattle.reader.specs.Rows.{cleared, record-reply, row-left}
+use Rattle.reader.specs.Rows.{record-reply, row-left}
 
 abbrev pub row-of : Outcome → List ℕ
 row-of (done r row) = row

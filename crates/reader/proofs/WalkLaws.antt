@@ -5,10 +5,10 @@ use mathlib.Core.Bool.{Bool, true, false, _&&_}
 use Prim.Native.Nat.{ℕ, zero, suc, _+_, _≤_, _<_}
 use native.Mathlib.Nat.{add-zero}
 use mathlib.Core.List.{List, [], _++_}
-use lib.ListN.{length, take, drop, getD, replicate}
+use lib.ListN.{length, take, drop, replicate}
 use lib.Dec.{lit<}
 use native.Mathlib.Omega.{arith}
-use Rattle.format.specs.Base.{pick, Bytes, Out, ok, refuse}
+use Rattle.format.specs.Base.{Bytes, Out, ok, refuse}
 use Rattle.format.specs.Track.{leans}
 use Rattle.format.specs.Body.{Body}
 use Rattle.format.specs.Variant.{file-variant}
@@ -27,9 +27,9 @@ use Rattle.places.proofs.AcceptedLaws.{same-place}
 use Rattle.record.specs.declared.RecordReply.{RecordReply}
 use Rattle.record.specs.declared.RecordReply.the-variants.{Accepted, Refused}
 use Rattle.record.specs.Recorded.{Outcome, done, replied, recorded}
-use Rattle.reader.specs.Rows.{cleared, record-reply, all-checked}
+use Rattle.reader.specs.Rows.{record-reply, all-checked}
 use Rattle.reader.proofs.Replies.{row-of, reply-of, refusal}
-use Rattle.reader.proofs.Cut.{obeys, body-is-bytes, inside, recorded-is}
+use Rattle.reader.proofs.Cut.{obeys, body-is-bytes, recorded-is}
 
 -- before the record of variant v, that starts at `start`
 pub record Walk (l : Layout) (row₀ row : List ℕ) (v start : ℕ) : Type 0 where

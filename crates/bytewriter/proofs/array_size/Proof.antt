@@ -4,30 +4,22 @@ use mathlib.Core.Path.{refl}
 use borrow.Author.Needs.{needs}
 use Rattle.bytewriter.proofs.array_size.Statement.{statement}
 use Rattle.bytewriter.proofs.array_size.Tie as tie
-use Rattle.bytewriter.proofs.array_size.Reads as reads
-use Rattle.bytewriter.proofs.array_size.Lts as lts
 
--- src/lib.rt:84:31
 enum-told : tie.Need-enum-told
 enum-told c = search needs
 
--- src/lib.rt:84:31
 add-result : tie.Need-add-result
 add-result c = search needs
 
--- src/lib.rt:85:39
 enum-told-2 : tie.Need-enum-told-2
 enum-told-2 c = search needs
 
--- src/lib.rt:85:39
 add-result-2 : tie.Need-add-result-2
 add-result-2 c = search needs
 
--- src/lib.rt:79:1
 returns : tie.Need-returns
 returns c = rw (c .enum-told .given .1) refl
 
--- src/lib.rt:79:1
 returns-2 : tie.Need-returns-2
 returns-2 c = rw (c .enum-told2 .given .1) refl
 

@@ -7,63 +7,46 @@ use native.Mathlib.Omega.{arith}
 use borrow.Author.Needs.{needs}
 use Rattle.bytewriter.proofs.four_bits.Statement.{statement}
 use Rattle.bytewriter.proofs.four_bits.Tie as tie
-use Rattle.bytewriter.proofs.four_bits.Reads as reads
-use Rattle.bytewriter.proofs.four_bits.Lts as lts
-use Rattle.bytewriter.proofs.number_at.Reads as number-at-reads
 
--- src/lib.rt:127:9
 number-at-requires : tie.Need-number-at-requires
 number-at-requires c κs = search needs
 
--- src/lib.rt:128:47
 add-number-at : tie.Need-add-number-at
 add-number-at c = search needs
 
--- src/lib.rt:128:9
 number-at-requires-2 : tie.Need-number-at-requires-2
 number-at-requires-2 c κs = search needs
 
--- src/lib.rt:129:46
 add-number-at-2 : tie.Need-add-number-at-2
 add-number-at-2 c = search needs
 
--- src/lib.rt:129:9
 number-at-requires-3 : tie.Need-number-at-requires-3
 number-at-requires-3 c κs = search needs
 
--- src/lib.rt:130:47
 add-number-at-3 : tie.Need-add-number-at-3
 add-number-at-3 c = search needs
 
--- src/lib.rt:130:9
 number-at-requires-4 : tie.Need-number-at-requires-4
 number-at-requires-4 c κs = search needs
 
--- src/lib.rt:131:13
 mul-result : tie.Need-mul-result
 mul-result c = search needs
 
--- src/lib.rt:131:5
 add-result : tie.Need-add-result
 add-result c = search needs
 
--- src/lib.rt:131:26
 mul-result-2 : tie.Need-mul-result-2
 mul-result-2 c = search needs
 
--- src/lib.rt:131:5
 add-result-2 : tie.Need-add-result-2
 add-result-2 c = search needs
 
--- src/lib.rt:131:38
 mul-result-3 : tie.Need-mul-result-3
 mul-result-3 c = search needs
 
--- src/lib.rt:131:5
 add-result-3 : tie.Need-add-result-3
 add-result-3 c = search needs
 
--- src/lib.rt:122:1
 returns : tie.Need-returns
 returns c = (half-of-four (numbers (array.Bits (c .before .before .before .before .before .args .higher)) (c .before .before .before .before .before .args .categories .now)) (c .before .before .before .before .before .args .i) (c .before .before .before .number-at .result) (c .before .before .number-at2 .result) (c .before .number-at3 .result) (c .number-at4 .result) (c .before .before .before .number-at .ensures .0) (c .before .before .number-at2 .ensures .0) (c .before .number-at3 .ensures .0) (c .number-at4 .ensures .0), omega (arith, (c .before .before .before .number-at .ensures .1), (c .before .before .number-at2 .ensures .1), (c .before .number-at3 .ensures .1), (c .number-at4 .ensures .1)))
 

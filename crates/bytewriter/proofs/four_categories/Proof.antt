@@ -4,63 +4,46 @@ use Rattle.bytewriter.proofs.ArrayLaws.{byte-of-four}
 use borrow.Author.Needs.{needs}
 use Rattle.bytewriter.proofs.four_categories.Statement.{statement}
 use Rattle.bytewriter.proofs.four_categories.Tie as tie
-use Rattle.bytewriter.proofs.four_categories.Reads as reads
-use Rattle.bytewriter.proofs.four_categories.Lts as lts
-use Rattle.bytewriter.proofs.number_at.Reads as number-at-reads
 
--- src/lib.rt:114:9
 number-at-requires : tie.Need-number-at-requires
 number-at-requires c κs = search needs
 
--- src/lib.rt:115:59
 add-number-at : tie.Need-add-number-at
 add-number-at c = search needs
 
--- src/lib.rt:115:9
 number-at-requires-2 : tie.Need-number-at-requires-2
 number-at-requires-2 c κs = search needs
 
--- src/lib.rt:116:58
 add-number-at-2 : tie.Need-add-number-at-2
 add-number-at-2 c = search needs
 
--- src/lib.rt:116:9
 number-at-requires-3 : tie.Need-number-at-requires-3
 number-at-requires-3 c κs = search needs
 
--- src/lib.rt:117:59
 add-number-at-3 : tie.Need-add-number-at-3
 add-number-at-3 c = search needs
 
--- src/lib.rt:117:9
 number-at-requires-4 : tie.Need-number-at-requires-4
 number-at-requires-4 c κs = search needs
 
--- src/lib.rt:118:13
 mul-result : tie.Need-mul-result
 mul-result c = search needs
 
--- src/lib.rt:118:5
 add-result : tie.Need-add-result
 add-result c = search needs
 
--- src/lib.rt:118:26
 mul-result-2 : tie.Need-mul-result-2
 mul-result-2 c = search needs
 
--- src/lib.rt:118:5
 add-result-2 : tie.Need-add-result-2
 add-result-2 c = search needs
 
--- src/lib.rt:118:39
 mul-result-3 : tie.Need-mul-result-3
 mul-result-3 c = search needs
 
--- src/lib.rt:118:5
 add-result-3 : tie.Need-add-result-3
 add-result-3 c = search needs
 
--- src/lib.rt:110:1
 returns : tie.Need-returns
 returns c = byte-of-four (c .before .before .before .before .before .args .categories .now) (c .before .before .before .before .before .args .i) (c .before .before .before .number-at .result) (c .before .before .number-at2 .result) (c .before .number-at3 .result) (c .number-at4 .result) (c .before .before .before .number-at .ensures .0) (c .before .before .number-at2 .ensures .0) (c .before .number-at3 .ensures .0) (c .number-at4 .ensures .0)
 

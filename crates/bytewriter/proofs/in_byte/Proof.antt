@@ -4,22 +4,16 @@ use mathlib.Core.Path.{refl}
 use borrow.Author.Needs.{needs}
 use Rattle.bytewriter.proofs.in_byte.Statement.{statement}
 use Rattle.bytewriter.proofs.in_byte.Tie as tie
-use Rattle.bytewriter.proofs.in_byte.Reads as reads
-use Rattle.bytewriter.proofs.in_byte.Lts as lts
 
--- src/lib.rt:154:30
 enum-told : tie.Need-enum-told
 enum-told c = search needs
 
--- src/lib.rt:155:38
 enum-told-2 : tie.Need-enum-told-2
 enum-told-2 c = search needs
 
--- src/lib.rt:150:1
 returns : tie.Need-returns
 returns c = rw (c .enum-told .given .1) refl
 
--- src/lib.rt:150:1
 returns-2 : tie.Need-returns-2
 returns-2 c = rw (c .enum-told2 .given .1) refl
 

@@ -4,34 +4,25 @@ use Rattle.bytewriter.proofs.ArrayLaws.{number-past, number-category, n
 use borrow.Author.Needs.{needs}
 use Rattle.bytewriter.proofs.number_at.Statement.{statement}
 use Rattle.bytewriter.proofs.number_at.Tie as tie
-use Rattle.bytewriter.proofs.number_at.Reads as reads
-use Rattle.bytewriter.proofs.number_at.Lts as lts
 
--- src/lib.rt:95:9
 returns : tie.Need-returns
 returns c = number-past (c .before .args .array) (c .before .args .categories .now) (c .before .args .i) (c .if1 .taken)
 
--- src/lib.rt:97:20
 shared-slice-read-category : tie.Need-shared-slice-read-category
 shared-slice-read-category c = search needs
 
--- src/lib.rt:99:30
 enum-told : tie.Need-enum-told
 enum-told c = search needs
 
--- src/lib.rt:100:23
 enum-known-array : tie.Need-enum-known-array
 enum-known-array c = search needs
 
--- src/lib.rt:102:17
 returns-2 : tie.Need-returns-2
 returns-2 c = number-bit (c .before .before .before .before .before .before .args .array) (c .before .before .before .before .before .before .args .categories .now) (c .before .before .before .before .before .before .args .i) (c .before .before .array .given .0 .0) (c .before .before .before .before .before .if1 .left) (c .before .before .array .given .1) (c .if2 .taken)
 
--- src/lib.rt:90:1
 returns-3 : tie.Need-returns-3
 returns-3 c = number-category (c .before .before .before .before .args .array) (c .before .before .before .before .args .categories .now) (c .before .before .before .before .args .i) (c .before .before .before .before .pre) (c .enum-told .given .1)
 
--- src/lib.rt:90:1
 returns-4 : tie.Need-returns-4
 returns-4 c = number-no-bit (c .before .before .before .before .before .before .args .array) (c .before .before .before .before .before .before .args .categories .now) (c .before .before .before .before .before .before .args .i) (c .before .before .array .given .0 .0) (c .before .before .before .before .before .if1 .left) (c .before .before .array .given .1) (c .if2 .left)
 

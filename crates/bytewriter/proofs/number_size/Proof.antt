@@ -3,14 +3,10 @@
 use Rattle.bytewriter.proofs.NumberLaws.{width-one, width-two}
 use Rattle.bytewriter.proofs.number_size.Statement.{statement}
 use Rattle.bytewriter.proofs.number_size.Tie as tie
-use Rattle.bytewriter.proofs.number_size.Reads as reads
-use Rattle.bytewriter.proofs.number_size.Lts as lts
 
--- src/lib.rt:60:9
 returns : tie.Need-returns
 returns c = width-one (c .before .args .samples) (c .if1 .taken)
 
--- src/lib.rt:56:1
 returns-2 : tie.Need-returns-2
 returns-2 c = width-two (c .before .args .samples) (c .if1 .left)
 

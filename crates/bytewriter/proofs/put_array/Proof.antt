@@ -9,10 +9,6 @@ use Prim.Native.Nat.{_+_, _-_}
 use borrow.Author.Needs.{needs}
 use Rattle.bytewriter.proofs.put_array.Statement.{statement}
 use Rattle.bytewriter.proofs.put_array.Tie as tie
-use Rattle.bytewriter.proofs.put_array.Reads as reads
-use Rattle.bytewriter.proofs.put_array.Lts as lts
-use Rattle.bytewriter.proofs.byte_of.Reads as byte-of-reads
-use Rattle.bytewriter.proofs.in_byte.Reads as in-byte-reads
 
 abbrev Inv-loop : tie.InvT-loop
 Inv-loop array categories output₀ at samples place₀ i₀ output place i = Inv array categories (length output₀) (at + length (array-bytes array categories)) (sets output₀ at (array-bytes array categories)) output place i
@@ -20,43 +16,33 @@ Inv-loop array categories output₀ at samples place₀ i₀ output place i = In
 abbrev μ-loop : tie.MeasureT-loop
 μ-loop array categories output₀ at samples place₀ i₀ output place i = length categories - i
 
--- src/lib.rt:164:9
 in-byte-requires : tie.Need-in-byte-requires Inv-loop μ-loop
 in-byte-requires c κs = search needs
 
--- src/lib.rt:167:5
 loop-holds : tie.Need-loop-holds Inv-loop μ-loop
 loop-holds c = start (c .before .before .before .args .array) (c .before .before .before .args .categories .now) (c .before .before .before .args .output .now) (c .before .before .before .args .at)
 
--- src/lib.rt:168:25
 byte-of-requires : tie.Need-byte-of-requires Inv-loop μ-loop
 byte-of-requires c κs = search needs
 
--- src/lib.rt:168:9
 slice-write-output : tie.Need-slice-write-output Inv-loop μ-loop
 slice-write-output c = omega (arith, turn-room (c .before .before .loop .inv) (c .before .loop-test .taken), (c .before .before .loop .inv .keeps), (c .before .before .before .before .before .before .pre .1))
 
--- src/lib.rt:169:17
 add-place : tie.Need-add-place Inv-loop μ-loop
 add-place c = omega (arith, turn-room (c .before .before .loop .inv) (c .before .loop-test .taken), (c .before .before .loop .inv .keeps), (c .before .before .before .before .before .before .pre .1), (c .before .before .before .before .before .before .good))
 
--- src/lib.rt:170:13
 add-i : tie.Need-add-i Inv-loop μ-loop
 add-i c = omega (arith, more-few (c .before .before .before .before .before .before .args .array), (c .before .before .before .in-byte .ensures), (c .before .before .before .before .before .before .good), (c .before .loop-test .taken))
 
--- src/lib.rt:167:5
 loop-less : tie.Need-loop-less Inv-loop μ-loop
 loop-less c = search needs
 
--- src/lib.rt:167:5
 loop-again : tie.Need-loop-again Inv-loop μ-loop
 loop-again c = turn-next (c .before .before .loop .inv) (c .before .loop-test .taken) (c .byte-of .result) (c .before .before .before .in-byte .result) (c .byte-of .ensures) (c .before .before .before .in-byte .ensures)
 
--- src/lib.rt:160:1
 same-length : tie.Need-same-length Inv-loop μ-loop
 same-length c = (c .before .loop .inv .keeps)
 
--- src/lib.rt:160:1
 returns : tie.Need-returns Inv-loop μ-loop
 returns c = let h = turn-done (c .before .loop .inv) (c .loop-test .left) in record { place = h .1; same = h .0 }
 

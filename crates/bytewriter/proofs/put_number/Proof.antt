@@ -6,50 +6,37 @@ use native.Mathlib.Omega.{arith}
 use borrow.Author.Needs.{needs}
 use Rattle.bytewriter.proofs.put_number.Statement.{statement}
 use Rattle.bytewriter.proofs.put_number.Tie as tie
-use Rattle.bytewriter.proofs.put_number.Reads as reads
-use Rattle.bytewriter.proofs.put_number.Lts as lts
 
--- src/lib.rt:70:18
 cast-output : tie.Need-cast-output
 cast-output c = search needs
 
--- src/lib.rt:70:5
 slice-write-output : tie.Need-slice-write-output
 slice-write-output c = omega (arith, width-some (c .args .samples), (c .pre .0))
 
--- src/lib.rt:72:16
 add-result : tie.Need-add-result
 add-result c = search needs
 
--- src/lib.rt:72:9
 same-length : tie.Need-same-length
 same-length c = search needs
 
--- src/lib.rt:72:9
 returns : tie.Need-returns
 returns c = number-one (c .before .args .samples) (c .before .args .output .now) (c .before .args .at) (c .before .args .number) (c .if1 .taken)
 
--- src/lib.rt:74:22
 cast-output-2 : tie.Need-cast-output-2
 cast-output-2 c = search needs
 
--- src/lib.rt:74:12
 add-output : tie.Need-add-output
 add-output c = search needs
 
--- src/lib.rt:74:5
 slice-write-output-2 : tie.Need-slice-write-output-2
 slice-write-output-2 c = simp length-set (omega (arith, width-two (c .before .args .samples) (c .if1 .left), (c .before .pre .0)))
 
--- src/lib.rt:75:5
 add-result-2 : tie.Need-add-result-2
 add-result-2 c = search needs
 
--- src/lib.rt:66:1
 same-length-2 : tie.Need-same-length-2
 same-length-2 c = search needs
 
--- src/lib.rt:66:1
 returns-2 : tie.Need-returns-2
 returns-2 c = number-two (c .before .args .samples) (c .before .args .output .now) (c .before .args .at) (c .before .args .number) (c .if1 .left)
 

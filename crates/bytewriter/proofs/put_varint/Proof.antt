@@ -9,8 +9,6 @@ use Prim.Native.Nat.{_+_}
 use borrow.Author.Needs.{needs}
 use Rattle.bytewriter.proofs.put_varint.Statement.{statement}
 use Rattle.bytewriter.proofs.put_varint.Tie as tie
-use Rattle.bytewriter.proofs.put_varint.Reads as reads
-use Rattle.bytewriter.proofs.put_varint.Lts as lts
 
 abbrev Inv-loop : tie.InvT-loop
 Inv-loop output₀ at number rest₀ place₀ output rest place = Inv (length output₀) (at + length (varint-bytes number)) (sets output₀ at (varint-bytes number)) output rest place
@@ -18,51 +16,39 @@ Inv-loop output₀ at number rest₀ place₀ output rest place = Inv (length ou
 abbrev μ-loop : tie.MeasureT-loop
 μ-loop output₀ at number rest₀ place₀ output rest place = rest
 
--- src/lib.rt:46:5
 loop-holds : tie.Need-loop-holds Inv-loop μ-loop
 loop-holds c = start (c .args .output .now) (c .args .at) (c .args .number) (c .pre .1)
 
--- src/lib.rt:47:26
 add-output : tie.Need-add-output Inv-loop μ-loop
 add-output c = search needs
 
--- src/lib.rt:47:25
 cast-output : tie.Need-cast-output Inv-loop μ-loop
 cast-output c = search needs
 
--- src/lib.rt:47:9
 slice-write-output : tie.Need-slice-write-output Inv-loop μ-loop
 slice-write-output c = omega (arith, turn-room (c .before .loop .inv), (c .before .loop .inv .keeps), (c .before .before .pre .0))
 
--- src/lib.rt:49:17
 add-place : tie.Need-add-place Inv-loop μ-loop
 add-place c = omega (arith, turn-room (c .before .loop .inv), (c .before .loop .inv .keeps), (c .before .before .pre .0), (c .before .before .good))
 
--- src/lib.rt:46:5
 loop-less : tie.Need-loop-less Inv-loop μ-loop
 loop-less c = search needs
 
--- src/lib.rt:46:5
 loop-again : tie.Need-loop-again Inv-loop μ-loop
 loop-again c = turn-more (c .before .loop .inv) (c .loop-test .taken)
 
--- src/lib.rt:51:21
 cast-output-2 : tie.Need-cast-output-2 Inv-loop μ-loop
 cast-output-2 c = search needs
 
--- src/lib.rt:51:5
 slice-write-output-2 : tie.Need-slice-write-output-2 Inv-loop μ-loop
 slice-write-output-2 c = omega (arith, turn-room (c .before .loop .inv), (c .before .loop .inv .keeps), (c .before .before .pre .0))
 
--- src/lib.rt:52:5
 add-result : tie.Need-add-result Inv-loop μ-loop
 add-result c = omega (arith, turn-room (c .before .loop .inv), (c .before .loop .inv .keeps), (c .before .before .pre .0), (c .before .before .good))
 
--- src/lib.rt:40:1
 same-length : tie.Need-same-length Inv-loop μ-loop
 same-length c = simp length-set (c .before .loop .inv .keeps)
 
--- src/lib.rt:40:1
 returns : tie.Need-returns Inv-loop μ-loop
 returns c = let l = turn-last (c .before .loop .inv) (c .loop-test .left) in record { place = l .1; same = l .0 }
 

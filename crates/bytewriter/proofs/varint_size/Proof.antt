@@ -3,26 +3,19 @@
 use Rattle.bytewriter.proofs.NumberLaws.{size-1, size-2, size-3, size-4, size-5}
 use Rattle.bytewriter.proofs.varint_size.Statement.{statement}
 use Rattle.bytewriter.proofs.varint_size.Tie as tie
-use Rattle.bytewriter.proofs.varint_size.Reads as reads
-use Rattle.bytewriter.proofs.varint_size.Lts as lts
 
--- src/lib.rt:25:9
 returns : tie.Need-returns
 returns c = size-1 (c .before .args .number) (c .if1 .taken)
 
--- src/lib.rt:28:9
 returns-2 : tie.Need-returns-2
 returns-2 c = size-2 (c .before .before .args .number) (c .before .if1 .left) (c .if2 .taken)
 
--- src/lib.rt:31:9
 returns-3 : tie.Need-returns-3
 returns-3 c = size-3 (c .before .before .before .args .number) (c .before .if2 .left) (c .if3 .taken)
 
--- src/lib.rt:34:9
 returns-4 : tie.Need-returns-4
 returns-4 c = size-4 (c .before .before .before .before .args .number) (c .before .if3 .left) (c .if4 .taken)
 
--- src/lib.rt:20:1
 returns-5 : tie.Need-returns-5
 returns-5 c = size-5 (c .before .before .before .before .args .number) (c .if4 .left) (c .before .before .before .before .pre)
 

@@ -1,3 +1,5 @@
+-- `cursor::+varint_from` meets its contract.
+-- Assumes nothing.
 use native.Mathlib.Omega.{arith}
 use Rattle.cursor.proofs.WithinLaws.{no-byte, too-low, last-good, last-big, more-good, rest-good, rest-refused}
 use Rattle.cursor.proofs.ByteLaws.{byte-read, byte-refused}
@@ -25,7 +27,6 @@ abbrev varint-from-below : ℕ → In 1 varint-from-kinds.ps
 varint-from-below t =
     and 1 varint-from-kinds.ps (falls 1 varint-from-kinds.ps _<_ μ-varint-from t) varint-from.Pre
 
--- src/lib.rt:30:9
 varint-from-byte-requires : (t : ℕ) → varint-from-lts.Need-byte-requires (
   byte-reads.Asked,
   byte-reads.Learnt,
@@ -34,7 +35,6 @@ varint-from-byte-requires : (t : ℕ) → varint-from-lts.Need-byte-requires (
 ) (varint-from-at t) varint-from.Post
 varint-from-byte-requires t c κs = search needs
 
--- src/lib.rt:32:29
 varint-from-enum-known-got : (t : ℕ) → varint-from-lts.Need-enum-known-got (
   byte-reads.Asked,
   byte-reads.Learnt,
@@ -43,7 +43,6 @@ varint-from-enum-known-got : (t : ℕ) → varint-from-lts.Need-enum-known-got (
 ) (varint-from-at t) varint-from.Post
 varint-from-enum-known-got t c = search needs
 
--- src/lib.rt:33:24
 varint-from-enum-known-got-2 : (t : ℕ) → varint-from-lts.Need-enum-known-got-2 (
   byte-reads.Asked,
   byte-reads.Learnt,
@@ -52,7 +51,6 @@ varint-from-enum-known-got-2 : (t : ℕ) → varint-from-lts.Need-enum-known-got
 ) (varint-from-at t) varint-from.Post
 varint-from-enum-known-got-2 t c = search needs
 
--- src/lib.rt:35:17
 varint-from-returns : (t : ℕ) → varint-from-lts.Need-returns (
   byte-reads.Asked,
   byte-reads.Learnt,
@@ -66,7 +64,6 @@ varint-from-returns t c =
     (byte-read (args .s .now) (args .c .at) (got2 .given .0 .0) (got2 .given .0 .1 .0) (sym (got2 .given .1) ∙ c .before .before .before .before .byte .ensures))
     (c .if1 .taken) (c .before .before .before .before .before .before .pre .1 .1)
 
--- src/lib.rt:42:46
 varint-from-cast-t19 : (t : ℕ) → varint-from-lts.Need-cast-t19 (
   byte-reads.Asked,
   byte-reads.Learnt,
@@ -75,7 +72,6 @@ varint-from-cast-t19 : (t : ℕ) → varint-from-lts.Need-cast-t19 (
 ) (varint-from-at t) varint-from.Post
 varint-from-cast-t19 t c = search needs
 
--- src/lib.rt:42:21
 varint-from-returns-2 : (t : ℕ) → varint-from-lts.Need-returns-2 (
   byte-reads.Asked,
   byte-reads.Learnt,
@@ -89,7 +85,6 @@ varint-from-returns-2 t c =
     (byte-read (args .s .now) (args .c .at) (got2 .given .0 .0) (got2 .given .0 .1 .0) (sym (got2 .given .1) ∙ c .before .before .before .before .before .before .byte .ensures))
     (c .before .before .if1 .left) (c .before .if2 .taken) (c .if3 .taken)
 
--- src/lib.rt:44:17
 varint-from-returns-3 : (t : ℕ) → varint-from-lts.Need-returns-3 (
   byte-reads.Asked,
   byte-reads.Learnt,
@@ -103,7 +98,6 @@ varint-from-returns-3 t c =
     (byte-read (args .s .now) (args .c .at) (got2 .given .0 .0) (got2 .given .0 .1 .0) (sym (got2 .given .1) ∙ c .before .before .before .before .before .before .byte .ensures))
     (c .before .if2 .taken) (c .if3 .left)
 
--- src/lib.rt:50:42
 varint-from-cast-t20 : (t : ℕ) → varint-from-lts.Need-cast-t20 (
   byte-reads.Asked,
   byte-reads.Learnt,
@@ -112,7 +106,6 @@ varint-from-cast-t20 : (t : ℕ) → varint-from-lts.Need-cast-t20 (
 ) (varint-from-at t) varint-from.Post
 varint-from-cast-t20 t c = search needs
 
--- src/lib.rt:50:17
 varint-from-returns-4 : (t : ℕ) → varint-from-lts.Need-returns-4 (
   byte-reads.Asked,
   byte-reads.Learnt,
@@ -126,7 +119,6 @@ varint-from-returns-4 t c =
     (byte-read (args .s .now) (args .c .at) (got2 .given .0 .0) (got2 .given .0 .1 .0) (sym (got2 .given .1) ∙ c .before .before .before .before .before .before .byte .ensures))
     (c .before .before .if1 .left) (c .before .if2 .left) (c .if4 .taken)
 
--- src/lib.rt:52:46
 varint-from-sub-varint-from : (t : ℕ) → varint-from-lts.Need-sub-varint-from (
   byte-reads.Asked,
   byte-reads.Learnt,
@@ -135,7 +127,6 @@ varint-from-sub-varint-from : (t : ℕ) → varint-from-lts.Need-sub-varint-from
 ) (varint-from-at t) varint-from.Post
 varint-from-sub-varint-from t c = search needs
 
--- src/lib.rt:52:17
 varint-from-varint-from-requires : (t : ℕ) → varint-from-lts.Need-varint-from-requires (
   byte-reads.Asked,
   byte-reads.Learnt,
@@ -144,7 +135,6 @@ varint-from-varint-from-requires : (t : ℕ) → varint-from-lts.Need-varint-fro
 ) (varint-from-at t) varint-from.Post
 varint-from-varint-from-requires t c κs = search needs
 
--- src/lib.rt:54:35
 varint-from-enum-known-rest : (t : ℕ) → varint-from-lts.Need-enum-known-rest (
   byte-reads.Asked,
   byte-reads.Learnt,
@@ -153,7 +143,6 @@ varint-from-enum-known-rest : (t : ℕ) → varint-from-lts.Need-enum-known-rest
 ) (varint-from-at t) varint-from.Post
 varint-from-enum-known-rest t c = search needs
 
--- src/lib.rt:54:64
 varint-from-mul-t23 : (t : ℕ) → varint-from-lts.Need-mul-t23 (
   byte-reads.Asked,
   byte-reads.Learnt,
@@ -170,7 +159,6 @@ varint-from-mul-t23 t c =
     (c .before .before .before .before .before .before .before .before .before .before .before .before .pre .1 .0) (varint-from .result)
     (varint-from .ensures) (c .before .rest .given .1) in omega (arith, h)
 
--- src/lib.rt:54:74
 varint-from-cast-t25 : (t : ℕ) → varint-from-lts.Need-cast-t25 (
   byte-reads.Asked,
   byte-reads.Learnt,
@@ -179,7 +167,6 @@ varint-from-cast-t25 : (t : ℕ) → varint-from-lts.Need-cast-t25 (
 ) (varint-from-at t) varint-from.Post
 varint-from-cast-t25 t c = search needs
 
--- src/lib.rt:54:64
 varint-from-add-t26 : (t : ℕ) → varint-from-lts.Need-add-t26 (
   byte-reads.Asked,
   byte-reads.Learnt,
@@ -196,7 +183,6 @@ varint-from-add-t26 t c =
     (c .before .before .before .before .before .before .before .before .before .before .before .before .pre .1 .0) (varint-from .result)
     (varint-from .ensures) (c .before .rest .given .1) in omega (arith, h, c .before .before .before .before .before .before .before .known-told2)
 
--- src/lib.rt:55:39
 varint-from-enum-known-rest-2 : (t : ℕ) → varint-from-lts.Need-enum-known-rest-2 (
   byte-reads.Asked,
   byte-reads.Learnt,
@@ -205,7 +191,6 @@ varint-from-enum-known-rest-2 : (t : ℕ) → varint-from-lts.Need-enum-known-re
 ) (varint-from-at t) varint-from.Post
 varint-from-enum-known-rest-2 t c = search needs
 
--- src/lib.rt:26:1
 varint-from-returns-5 : (t : ℕ) → varint-from-lts.Need-returns-5 (
   byte-reads.Asked,
   byte-reads.Learnt,
@@ -217,7 +202,6 @@ varint-from-returns-5 t c =
     no-byte (args .s .now) (args .first) (args .more) (args .least) (args .c .at) (c .before .got .given .0 .0) (c .before .got .given .0 .1 .0)
     (byte-refused (args .s .now) (args .c .at) (c .before .got .given .0 .0) (c .before .got .given .0 .1 .0) (sym (c .before .got .given .1) ∙ c .before .before .before .byte .ensures))
 
--- src/lib.rt:26:1
 varint-from-returns-6 : (t : ℕ) → varint-from-lts.Need-returns-6 (
   byte-reads.Asked,
   byte-reads.Learnt,
@@ -233,7 +217,6 @@ varint-from-returns-6 t c =
     (c .before .before .before .before .before .if2 .left) (c .before .before .before .before .if4 .left) (varint-from .result) (varint-from .ensures)
     (c .before .rest .given .0 .0) (c .before .rest .given .0 .1 .0) (c .before .rest .given .1)
 
--- src/lib.rt:26:1
 varint-from-returns-7 : (t : ℕ) → varint-from-lts.Need-returns-7 (
   byte-reads.Asked,
   byte-reads.Learnt,

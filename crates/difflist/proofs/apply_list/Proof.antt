@@ -1,29 +1,25 @@
+-- `difflist::apply_list` meets its contract.
+-- Assumes nothing.
 use Rattle.difflist.proofs.Agrees.{end-listed, end-cleared, end-kept}
 use borrow.Author.Needs.{needs}
 use Rattle.difflist.proofs.apply_list.Statement.{statement}
 use Rattle.difflist.proofs.apply_list.Tie as tie
 
--- src/lib.rt:144:9
 run-list-requires : tie.Need-run-list-requires
 run-list-requires c κs = search needs
 
--- src/lib.rt:146:26
 enum-known-got : tie.Need-enum-known-got
 enum-known-got c = search needs
 
--- src/lib.rt:147:29
 enum-known-got-2 : tie.Need-enum-known-got-2
 enum-known-got-2 c = search needs
 
--- src/lib.rt:149:17
 clear-requires : tie.Need-clear-requires
 clear-requires c κs = search needs
 
--- src/lib.rt:150:17
 same-length : tie.Need-same-length
 same-length c = search needs
 
--- src/lib.rt:150:17
 returns : tie.Need-returns
 returns c =
     let args = c .before .before .before .before .before .before .before .before .before .before .before .before .before .before .args in
@@ -35,11 +31,9 @@ returns c =
     (pre .0) (pre .1 .0) (run-list .result) (run-list .last .1 .1 .1 .1 .1 .0) (run-list .ensures) (got2 .given .0 .0) (got2 .given .0 .1 .0) _
     (got2 .given .1) (c .before .before .before .before .if1 .taken) (c .before .before .clear .ensures)
 
--- src/lib.rt:139:1
 same-length-2 : tie.Need-same-length-2
 same-length-2 c = search needs
 
--- src/lib.rt:139:1
 returns-2 : tie.Need-returns-2
 returns-2 c =
     let args = c .before .before .before .before .before .before .before .before .before .args in
@@ -49,11 +43,9 @@ returns-2 c =
     (λ i. c .before .before .before .before .before .before .before .before .shared-slice-known .given i .fits) (pre .0) (pre .1 .0)
     (run-list .result) (run-list .last .1 .1 .1 .1 .1 .0) (run-list .ensures) (c .before .got .given .0 .0) (c .before .got .given .1)
 
--- src/lib.rt:139:1
 same-length-3 : tie.Need-same-length-3
 same-length-3 c = search needs
 
--- src/lib.rt:139:1
 returns-3 : tie.Need-returns-3
 returns-3 c =
     let args = c .before .before .before .before .before .before .before .before .before .before .args in

@@ -1,22 +1,20 @@
+-- `difflist::run_list` meets its contract.
+-- Assumes nothing.
 use native.Mathlib.Omega.{arith}
 use Rattle.difflist.proofs.WholeLaws.{list-not, list-none, list-unfit, list-fits, counted, laid-room}
 use borrow.Author.Needs.{needs}
 use Rattle.difflist.proofs.run_list.Statement.{statement}
 use Rattle.difflist.proofs.run_list.Tie as tie
 
--- src/lib.rt:119:9
 read-count-requires : tie.Need-read-count-requires
 read-count-requires c κs = search needs
 
--- src/lib.rt:121:28
 enum-known-counted : tie.Need-enum-known-counted
 enum-known-counted c = search needs
 
--- src/lib.rt:122:23
 enum-known-counted-2 : tie.Need-enum-known-counted-2
 enum-known-counted-2 c = search needs
 
--- src/lib.rt:124:17
 returns : tie.Need-returns
 returns c =
     let args = c .before .before .before .before .before .before .before .args in
@@ -25,7 +23,6 @@ returns c =
     list-none (args .s .now) (args .c .at) (args .n) (args .store) (args .held) (args .row .now) (read-count .result) (read-count .ensures)
     (counted2 .given .0 .0) (counted2 .given .0 .1 .0) (counted2 .given .1) (c .if1 .taken)
 
--- src/lib.rt:126:17
 lay-parts-requires : tie.Need-lay-parts-requires
 lay-parts-requires c κs =
     let args = c .before .before .before .before .before .before .before .args in
@@ -36,15 +33,12 @@ lay-parts-requires c κs =
     (pre .0) (read-count .result) (read-count .ensures) (counted2 .given .0 .0) (counted2 .given .0 .1 .0) (counted2 .given .1) in
     (h .1, omega (arith, c .if1 .left), omega (arith, h .0, pre .1 .1))
 
--- src/lib.rt:128:36
 enum-known-laid : tie.Need-enum-known-laid
 enum-known-laid c = search needs
 
--- src/lib.rt:129:35
 enum-known-laid-2 : tie.Need-enum-known-laid-2
 enum-known-laid-2 c = search needs
 
--- src/lib.rt:130:21
 all-entries-requires : tie.Need-all-entries-requires
 all-entries-requires c κs =
     let args = c .before .before .before .before .before .before .before .before .before .before .before .before .args in
@@ -58,7 +52,6 @@ all-entries-requires c κs =
     (read-count .result) (read-count .ensures) (counted2 .given .0 .0) (counted2 .given .0 .1 .0) (counted2 .given .1) in
     (laid-room (args .s .now) (args .n) (counted2 .given .0 .0) (counted2 .given .0 .1 .0 .at) (omega (arith, c .before .before .before .before .before .if1 .left)) (h .0) (omega (arith, h .0, pre .1 .1)) (h .1) (lay-parts .result) (lay-parts .ensures) (laid2 .given .0 .0) (laid2 .given .0 .1 .0) (laid2 .given .1), pre .1 .0)
 
--- src/lib.rt:114:1
 returns-2 : tie.Need-returns-2
 returns-2 c =
     let args = c .before .before .before .before .before .before .args in
@@ -66,7 +59,6 @@ returns-2 c =
     list-not (args .s .now) (args .c .at) (args .n) (args .store) (args .held) (args .row .now) (read-count .result) (read-count .ensures)
     (c .before .counted .given .0 .0) (c .before .counted .given .0 .1 .0) (c .before .counted .given .1)
 
--- src/lib.rt:114:1
 returns-3 : tie.Need-returns-3
 returns-3 c =
     let args = c .before .before .before .before .before .before .before .before .before .before .before .args in
@@ -77,11 +69,9 @@ returns-3 c =
     (counted2 .given .0 .0) (counted2 .given .0 .1 .0) (counted2 .given .1) (c .before .before .before .before .if1 .left) (lay-parts .result)
     (lay-parts .ensures) (c .before .laid .given .0 .0) (c .before .laid .given .0 .1 .0) (c .before .laid .given .1)
 
--- src/lib.rt:114:1
 same-length : tie.Need-same-length
 same-length c = search needs
 
--- src/lib.rt:114:1
 returns-4 : tie.Need-returns-4
 returns-4 c =
     let args = c .before .before .before .before .before .before .before .before .before .before .before .before .before .before .before .args in

@@ -7,31 +7,22 @@ use native.Mathlib.Omega.{arith}
 use borrow.Author.Needs.{needs}
 use Rattle.listparts.proofs.advance.Statement.{statement}
 use Rattle.listparts.proofs.advance.Tie as tie
-use Rattle.listparts.proofs.advance.Reads as reads
-use Rattle.listparts.proofs.advance.Lts as lts
-use Rattle.bytewriter.proofs.varint_size.Reads as varint-size-reads
 
--- src/lib.rt:157:9
 returns : tie.Need-returns
 returns c = after-first (c .before .before .args .group) (c .before .before .args .sample) (c .if1 .taken)
 
--- src/lib.rt:164:28
 sub-varint-size : tie.Need-sub-varint-size
 sub-varint-size c = search needs
 
--- src/lib.rt:164:9
 varint-size-requires : tie.Need-varint-size-requires
 varint-size-requires c κs = search needs
 
--- src/lib.rt:165:16
 sub-room : tie.Need-sub-room
 sub-room c = search needs
 
--- src/lib.rt:166:16
 add-size : tie.Need-add-size
 add-size c = omega (arith, (c .before .before .before .before .before .before .pre .0 .most), (c .before .before .varint-size .ensures), varint-length ((c .before .before .before .before .before .before .args .sample) - (c .before .before .before .before .before .before .args .group .before)) .1)
 
--- src/lib.rt:152:1
 returns-2 : tie.Need-returns-2
 returns-2 c = after-step (c .before .before .before .before .before .before .args .group) (c .before .before .before .before .before .before .args .sample) (c .before .before .before .before .if1 .left) (c .before .before .varint-size .result) (c .before .before .varint-size .ensures)
 

@@ -4,22 +4,16 @@ use Rattle.listparts.proofs.RowLaws.{exchange-kept}
 use borrow.Author.Needs.{needs}
 use Rattle.listparts.proofs.exchange_if.Statement.{statement}
 use Rattle.listparts.proofs.exchange_if.Tie as tie
-use Rattle.listparts.proofs.exchange_if.Reads as reads
-use Rattle.listparts.proofs.exchange_if.Lts as lts
 
--- src/lib.rt:54:9
 returns : tie.Need-returns
 returns c = search needs
 
--- src/lib.rt:54:9
 returns-2 : tie.Need-returns-2
 returns-2 c = search needs
 
--- src/lib.rt:54:9
 returns-3 : tie.Need-returns-3
 returns-3 c = exchange-kept (c .before .before .args .inverted) (c .before .before .args .category) ((c .match .rest .0 .1)) ((c .match .rest .1))
 
--- src/lib.rt:50:1
 returns-4 : tie.Need-returns-4
 returns-4 c = search needs
 

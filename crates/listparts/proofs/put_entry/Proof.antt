@@ -5,36 +5,25 @@ use native.Mathlib.Omega.{arith}
 use borrow.Author.Needs.{needs}
 use Rattle.listparts.proofs.put_entry.Statement.{statement}
 use Rattle.listparts.proofs.put_entry.Tie as tie
-use Rattle.listparts.proofs.put_entry.Reads as reads
-use Rattle.listparts.proofs.put_entry.Lts as lts
-use Rattle.listparts.proofs.put_first.Reads as put-first-reads
-use Rattle.listparts.proofs.put_step.Reads as put-step-reads
 
--- src/lib.rt:145:9
 put-first-requires : tie.Need-put-first-requires
 put-first-requires c κs = ((rw (entry-first (c .before .before .before .before .args .part) (c .before .before .before .before .args .samples) (c .before .before .before .before .args .group) (c .before .before .before .before .args .sample) (c .before .if1 .taken)) (c .before .before .before .before .pre .0 .0), (c .before .before .before .before .pre .0 .1)), ((c .before .before .before .before .pre .1), (c .before .if1 .taken)))
 
--- src/lib.rt:145:9
 same-length : tie.Need-same-length
 same-length c = search needs
 
--- src/lib.rt:145:9
 returns : tie.Need-returns
 returns c = rw (← entry-first (c .before .before .before .before .before .before .before .args .part) (c .before .before .before .before .before .before .before .args .samples) (c .before .before .before .before .before .before .before .args .group) (c .before .before .before .before .before .before .before .args .sample) (c .before .before .before .before .if1 .taken)) (c .before .before .put-first .ensures)
 
--- src/lib.rt:147:16
 sub-step : tie.Need-sub-step
 sub-step c = search needs
 
--- src/lib.rt:148:5
 put-step-requires : tie.Need-put-step-requires
 put-step-requires c κs = (rw (entry-step (c .before .before .before .before .before .args .part) (c .before .before .before .before .before .args .samples) (c .before .before .before .before .before .args .group) (c .before .before .before .before .before .args .sample) (c .before .before .if1 .left)) (c .before .before .before .before .before .pre .0 .0), omega (arith, (c .before .before .before .before .before .pre .0 .1)))
 
--- src/lib.rt:132:1
 same-length-2 : tie.Need-same-length-2
 same-length-2 c = search needs
 
--- src/lib.rt:132:1
 returns-2 : tie.Need-returns-2
 returns-2 c = rw (← entry-step (c .before .before .before .before .before .before .before .before .args .part) (c .before .before .before .before .before .before .before .before .args .samples) (c .before .before .before .before .before .before .before .before .args .group) (c .before .before .before .before .before .before .before .before .args .sample) (c .before .before .before .before .before .if1 .left)) (c .before .before .put-step .ensures)
 

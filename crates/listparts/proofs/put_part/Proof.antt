@@ -11,10 +11,6 @@ use native.Mathlib.Omega.{arith}
 use Prim.Native.Nat.{_+_, _-_}
 use Rattle.listparts.proofs.put_part.Statement.{statement}
 use Rattle.listparts.proofs.put_part.Tie as tie
-use Rattle.listparts.proofs.put_part.Reads as reads
-use Rattle.listparts.proofs.put_part.Lts as lts
-use Rattle.listparts.proofs.put_sample.Reads as put-sample-reads
-use Rattle.listparts.proofs.sample_at.Reads as sample-at-reads
 
 abbrev Inv-loop : tie.InvT-loop
 Inv-loop part base categories anchor output₀ at group₀ place₀ i₀ output group place i = Inv part (base-row base anchor categories) (row base categories) (length categories) (length output₀) (at + length (part-bytes part (length categories) (listed base anchor categories))) (sets output₀ at (part-bytes part (length categories) (listed base anchor categories))) output group place i
@@ -22,35 +18,27 @@ Inv-loop part base categories anchor output₀ at group₀ place₀ i₀ output 
 abbrev μ-loop : tie.MeasureT-loop
 μ-loop part base categories anchor output₀ at group₀ place₀ i₀ output group place i = length categories - i
 
--- src/lib.rt:221:5
 loop-holds : tie.Need-loop-holds Inv-loop μ-loop
 loop-holds c = start (c .before .before .before .args .part) (base-row (c .before .before .before .args .base) (c .before .before .before .args .anchor .now) (c .before .before .before .args .categories .now)) (row (c .before .before .before .args .base) (c .before .before .before .args .categories .now)) (length (c .before .before .before .args .categories .now)) (c .before .before .before .args .output .now) (c .before .before .before .args .at)
 
--- src/lib.rt:222:13
 sample-at-requires : tie.Need-sample-at-requires Inv-loop μ-loop
 sample-at-requires c κs = ((c .loop-test .taken), (c .before .before .before .before .before .pre .0))
 
--- src/lib.rt:223:13
 put-sample-requires : tie.Need-put-sample-requires Inv-loop μ-loop
 put-sample-requires c κs = ((omega (arith, (c .before .before .loop-test .taken), (c .before .before .before .before .before .before .before .pre .0 .few)), (c .before .before .before .loop .inv .fits)), omega (arith, turn-room (c .before .before .before .loop .inv) (omega (arith, (c .before .before .loop-test .taken), (c .before .before .before .before .before .before .before .pre .0 .each))) (omega (arith, (c .before .before .loop-test .taken), row-length (c .before .before .before .before .before .before .before .args .base) (c .before .before .before .before .before .before .before .args .categories .now))) (c .before .sample-at .result .base) (c .before .sample-at .result .value) (c .before .sample-at .ensures .1) (c .before .sample-at .ensures .0), (c .before .before .before .loop .inv .keeps), (c .before .before .before .before .before .before .before .pre .1)))
 
--- src/lib.rt:226:13
 add-i : tie.Need-add-i Inv-loop μ-loop
 add-i c = search needs
 
--- src/lib.rt:221:5
 loop-less : tie.Need-loop-less Inv-loop μ-loop
 loop-less c = search needs
 
--- src/lib.rt:221:5
 loop-again : tie.Need-loop-again Inv-loop μ-loop
 loop-again c = turn-next (c .before .before .before .before .before .before .before .loop .inv) (omega (arith, (c .before .before .before .before .before .before .loop-test .taken), (c .before .before .before .before .before .before .before .before .before .before .before .pre .0 .each))) (omega (arith, (c .before .before .before .before .before .before .loop-test .taken), row-length (c .before .before .before .before .before .before .before .before .before .before .before .args .base) (c .before .before .before .before .before .before .before .before .before .before .before .args .categories .now))) (c .before .before .before .before .before .sample-at .result .base) (c .before .before .before .before .before .sample-at .result .value) (c .before .before .before .before .before .sample-at .ensures .1) (c .before .before .before .before .before .sample-at .ensures .0) (c .before .before .before .put-sample .ensures)
 
--- src/lib.rt:201:1
 same-length : tie.Need-same-length Inv-loop μ-loop
 same-length c = (c .before .loop .inv .keeps)
 
--- src/lib.rt:201:1
 returns : tie.Need-returns Inv-loop μ-loop
 returns c = let h = turn-done (c .before .loop .inv) (omega (arith, (c .loop-test .left), (c .before .before .before .before .before .pre .0 .each))) in record { place = h .1; same = h .0 }
 

@@ -4,28 +4,19 @@ use Rattle.listparts.proofs.EntryLaws.{sample-room, passed-listed, pass
 use borrow.Author.Needs.{needs}
 use Rattle.listparts.proofs.put_sample.Statement.{statement}
 use Rattle.listparts.proofs.put_sample.Tie as tie
-use Rattle.listparts.proofs.put_sample.Reads as reads
-use Rattle.listparts.proofs.put_sample.Lts as lts
-use Rattle.listparts.proofs.advance.Reads as advance-reads
-use Rattle.listparts.proofs.put_entry.Reads as put-entry-reads
 
--- src/lib.rt:190:9
 returns : tie.Need-returns
 returns c = passed-base (c .before .before .before .args .part) (c .before .before .before .args .samples) (c .before .before .before .args .s .base) (c .before .before .before .args .s .value) (c .before .before .before .args .group) (c .before .before .before .args .i) (c .if1 .taken) (c .before .before .before .args .output .now) (c .before .before .before .args .at)
 
--- src/lib.rt:192:9
 put-entry-requires : tie.Need-put-entry-requires
 put-entry-requires c κs = ((sample-room (c .before .before .before .before .args .part) (c .before .before .before .before .args .samples) (c .before .before .before .before .args .s .base) (c .before .before .before .before .args .s .value) (c .before .before .before .before .args .group) (c .before .before .before .before .args .i) (c .before .if1 .left) _ _ (c .before .before .before .before .pre .1), (c .before .before .before .before .pre .0 .0)), (c .before .before .before .before .pre .0 .1))
 
--- src/lib.rt:193:9
 advance-requires : tie.Need-advance-requires
 advance-requires c κs = search needs
 
--- src/lib.rt:176:1
 same-length : tie.Need-same-length
 same-length c = search needs
 
--- src/lib.rt:176:1
 returns-2 : tie.Need-returns-2
 returns-2 c = passed-listed (c .before .before .before .before .before .before .before .before .args .part) (c .before .before .before .before .before .before .before .before .args .samples) (c .before .before .before .before .before .before .before .before .args .s .base) (c .before .before .before .before .before .before .before .before .args .s .value) (c .before .before .before .before .before .before .before .before .args .group) (c .before .before .before .before .before .before .before .before .args .i) (c .before .before .before .before .before .if1 .left) (c .before .before .before .before .before .before .before .before .args .output .now) (c .before .before .before .before .before .before .before .before .args .at) (c .before .before .before .put-entry .result) _ (c .advance .result) (c .before .before .before .put-entry .ensures) (c .advance .ensures)
 

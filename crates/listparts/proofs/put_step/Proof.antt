@@ -5,39 +5,28 @@ use native.Mathlib.Omega.{arith}
 use borrow.Author.Needs.{needs}
 use Rattle.listparts.proofs.put_step.Statement.{statement}
 use Rattle.listparts.proofs.put_step.Tie as tie
-use Rattle.listparts.proofs.put_step.Reads as reads
-use Rattle.listparts.proofs.put_step.Lts as lts
-use Rattle.bytewriter.proofs.put_varint.Reads as put-varint-reads
 
--- src/lib.rt:125:24
 enum-told : tie.Need-enum-told
 enum-told c = search needs
 
--- src/lib.rt:126:24
 enum-told-2 : tie.Need-enum-told-2
 enum-told-2 c = search needs
 
--- src/lib.rt:127:35
 enum-told-3 : tie.Need-enum-told-3
 enum-told-3 c = search needs
 
--- src/lib.rt:127:24
 put-varint-requires : tie.Need-put-varint-requires
 put-varint-requires c κs = (room-step (c .before .before .before .before .args .part) (c .before .before .before .before .args .step) (c .before .before .before .before .args .output .now) (c .before .before .before .before .args .at) (c .before .enum-told3 .given .1) _ (c .before .before .before .before .pre .0), omega (arith, (c .before .before .before .before .pre .1)))
 
--- src/lib.rt:120:1
 returns : tie.Need-returns
 returns c = step-heads (c .before .before .before .args .part) (c .before .before .before .args .step) (c .before .before .before .args .output .now) (c .before .before .before .args .at) (c .enum-told .given .1)
 
--- src/lib.rt:120:1
 returns-2 : tie.Need-returns-2
 returns-2 c = step-sizes (c .before .before .before .args .part) (c .before .before .before .args .step) (c .before .before .before .args .output .now) (c .before .before .before .args .at) (c .enum-told2 .given .1)
 
--- src/lib.rt:120:1
 same-length : tie.Need-same-length
 same-length c = search needs
 
--- src/lib.rt:120:1
 returns-3 : tie.Need-returns-3
 returns-3 c = step-steps (c .before .before .before .before .before .before .before .args .part) (c .before .before .before .before .before .before .before .args .step) (c .before .before .before .before .before .before .before .args .output .now) (c .before .before .before .before .before .before .before .args .at) (c .before .before .before .before .enum-told3 .given .1) _ _ (c .before .before .put-varint .ensures)
 

@@ -4,47 +4,34 @@ use Rattle.listparts.proofs.RowLaws.{sample-category, sample-anchor, an
 use borrow.Author.Needs.{needs}
 use Rattle.listparts.proofs.sample_at.Statement.{statement}
 use Rattle.listparts.proofs.sample_at.Tie as tie
-use Rattle.listparts.proofs.sample_at.Reads as reads
-use Rattle.listparts.proofs.sample_at.Lts as lts
-use Rattle.listparts.proofs.exchange_if.Reads as exchange-if-reads
 
--- src/lib.rt:68:20
 shared-slice-read-category : tie.Need-shared-slice-read-category
 shared-slice-read-category c = search needs
 
--- src/lib.rt:70:24
 enum-known-base : tie.Need-enum-known-base
 enum-known-base c = search needs
 
--- src/lib.rt:74:24
 enum-known-base-2 : tie.Need-enum-known-base-2
 enum-known-base-2 c = search needs
 
--- src/lib.rt:75:20
 exchange-if-requires : tie.Need-exchange-if-requires
 exchange-if-requires c κs = search needs
 
--- src/lib.rt:76:19
 shared-slice-read-t15 : tie.Need-shared-slice-read-t15
 shared-slice-read-t15 c = anchor-there (c .before .before .before .before .before .before .before .before .args .base) (c .before .before .before .before .before .before .before .before .args .anchor .now) (c .before .before .before .before .before .before .before .before .args .categories .now) (c .before .before .before .before .before .before .before .before .args .i) (c .before .before .before .before .before .before .before .before .pre .0) (c .before .before .before .base2 .given .0 .0) (c .before .before .before .base2 .given .1) (c .before .before .before .before .before .before .before .before .pre .1)
 
--- src/lib.rt:78:22
 enum-known-base-3 : tie.Need-enum-known-base-3
 enum-known-base-3 c = search needs
 
--- src/lib.rt:80:17
 returns : tie.Need-returns
 returns c = sample-higher (c .before .before .before .before .before .before .before .args .base) (c .before .before .before .before .before .before .before .args .anchor .now) (c .before .before .before .before .before .before .before .args .categories .now) (c .before .before .before .before .before .before .before .args .i) (c .before .before .before .before .before .before .before .pre .0) (c .before .before .base3 .given .0 .0) (c .before .before .base3 .given .0 .1 .0) (c .before .before .base3 .given .1) (c .if1 .taken)
 
--- src/lib.rt:64:1
 returns-2 : tie.Need-returns-2
 returns-2 c = sample-category (c .before .before .before .before .before .before .args .base) (c .before .before .before .before .before .before .args .anchor .now) (c .before .before .before .before .before .before .args .categories .now) (c .before .before .before .before .before .before .args .i) (c .before .before .before .before .before .before .pre .0) (c .before .base .given .0 .0) (c .before .base .given .1)
 
--- src/lib.rt:64:1
 returns-3 : tie.Need-returns-3
 returns-3 c = sample-anchor (c .before .before .before .before .before .before .before .before .args .base) (c .before .before .before .before .before .before .before .before .args .anchor .now) (c .before .before .before .before .before .before .before .before .args .categories .now) (c .before .before .before .before .before .before .before .before .args .i) (c .before .before .before .before .before .before .before .before .pre .0) (c .before .before .before .base2 .given .0 .0) (c .before .exchange-if .result) (c .before .before .before .base2 .given .1) (c .before .exchange-if .ensures)
 
--- src/lib.rt:64:1
 returns-4 : tie.Need-returns-4
 returns-4 c = sample-lower (c .before .before .before .before .before .before .before .args .base) (c .before .before .before .before .before .before .before .args .anchor .now) (c .before .before .before .before .before .before .before .args .categories .now) (c .before .before .before .before .before .before .before .args .i) (c .before .before .before .before .before .before .before .pre .0) (c .before .before .base3 .given .0 .0) (c .before .before .base3 .given .0 .1 .0) (c .before .before .base3 .given .1) (c .if1 .left)
 

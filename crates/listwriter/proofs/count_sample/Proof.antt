@@ -5,34 +5,24 @@ use native.Mathlib.Omega.{arith}
 use borrow.Author.Needs.{needs}
 use Rattle.listwriter.proofs.count_sample.Statement.{statement}
 use Rattle.listwriter.proofs.count_sample.Tie as tie
-use Rattle.listwriter.proofs.count_sample.Reads as reads
-use Rattle.listwriter.proofs.count_sample.Lts as lts
-use Rattle.listparts.proofs.advance.Reads as advance-reads
-use Rattle.listwriter.proofs.step_size.Reads as step-size-reads
 
--- src/lib.rt:115:9
 returns : tie.Need-returns
 returns c =
     let a = c .before .before .args in
     counts-base (a .s .base) (a .s .value) (a .i) (a .counted) (c .if1 .taken)
 
--- src/lib.rt:118:9
 step-size-requires : tie.Need-step-size-requires
 step-size-requires c κs = search needs
 
--- src/lib.rt:119:9
 advance-requires : tie.Need-advance-requires
 advance-requires c κs = search needs
 
--- src/lib.rt:120:17
 add-count : tie.Need-add-count
 add-count c = search needs
 
--- src/lib.rt:121:17
 add-steps : tie.Need-add-steps
 add-steps c = omega (arith, (c .before .before .before .before .before .before .before .pre .1), (c .before .before .before .step-size .ensures), entry-few (c .before .before .before .before .before .before .before .args .counted .group) (c .before .before .before .before .before .before .before .args .i))
 
--- src/lib.rt:109:1
 returns-2 : tie.Need-returns-2
 returns-2 c =
     let a = c .before .before .before .before .before .before .before .args in

@@ -8,79 +8,61 @@ use native.Mathlib.Omega.{arith}
 use borrow.Author.Needs.{needs}
 use Rattle.listwriter.proofs.list_size.Statement.{statement}
 use Rattle.listwriter.proofs.list_size.Tie as tie
-use Rattle.listwriter.proofs.list_size.Reads as reads
-use Rattle.listwriter.proofs.list_size.Lts as lts
-use Rattle.bytewriter.proofs.number_size.Reads as number-size-reads
-use Rattle.bytewriter.proofs.varint_size.Reads as varint-size-reads
-use Rattle.listwriter.proofs.measure.Reads as measure-reads
 
--- src/lib.rt:158:9
 measure-requires : tie.Need-measure-requires
 measure-requires c κs = search needs
 
--- src/lib.rt:161:9
 returns : tie.Need-returns
 returns c =
     let a = c .before .before .before .before .args in
     size-none (length (a .categories .now)) (listed (a .base) (a .anchor .now) (a .categories .now)) (c .before .measure .result .count) (c .before .measure .result .steps) (c .before .measure .ensures .count-is) (c .before .measure .ensures .steps-are) (c .if1 .taken)
 
--- src/lib.rt:163:19
 add-groups : tie.Need-add-groups
 add-groups c =
     let a = c .before .before .before .before .args in
     omega (arith, listed-most (a .base) (a .anchor .now) (a .categories .now) (c .before .before .before .before .pre), (c .before .measure .ensures .count-is))
 
--- src/lib.rt:164:17
 number-size-requires : tie.Need-number-size-requires
 number-size-requires c κs = search needs
 
--- src/lib.rt:164:17
 mul-heads : tie.Need-mul-heads
 mul-heads c =
     let a = c .before .before .before .before .before .args in
     omega (arith, size-bound (length (a .categories .now)) (listed (a .base) (a .anchor .now) (a .categories .now)) (c .before .before .measure .result .count) (c .before .before .measure .result .steps) (c .before .before .measure .ensures .count-is) (c .before .before .measure .ensures .steps-are) (c .number-size .result) (c .number-size .ensures) (listed-most (a .base) (a .anchor .now) (a .categories .now) (c .before .before .before .before .before .pre)))
 
--- src/lib.rt:165:19
 add-values : tie.Need-add-values
 add-values c =
     let a = c .before .before .before .before .before .args in
     omega (arith, listed-most (a .base) (a .anchor .now) (a .categories .now) (c .before .before .before .before .before .pre), (c .before .before .measure .ensures .count-is))
 
--- src/lib.rt:166:17
 varint-size-requires : tie.Need-varint-size-requires
 varint-size-requires c κs =
     let a = c .before .before .before .before .before .args in
     omega (arith, listed-most (a .base) (a .anchor .now) (a .categories .now) (c .before .before .before .before .before .pre), (c .before .before .measure .ensures .count-is))
 
--- src/lib.rt:166:17
 add-bytes : tie.Need-add-bytes
 add-bytes c =
     let a = c .before .before .before .before .before .before .args in
     omega (arith, size-bound (length (a .categories .now)) (listed (a .base) (a .anchor .now) (a .categories .now)) (c .before .before .before .measure .result .count) (c .before .before .before .measure .result .steps) (c .before .before .before .measure .ensures .count-is) (c .before .before .before .measure .ensures .steps-are) (c .before .number-size .result) (c .before .number-size .ensures) (listed-most (a .base) (a .anchor .now) (a .categories .now) (c .before .before .before .before .before .before .pre)), (c .varint-size .ensures), varint-length (c .before .before .before .measure .result .count))
 
--- src/lib.rt:166:47
 sub-bytes : tie.Need-sub-bytes
 sub-bytes c = search needs
 
--- src/lib.rt:166:17
 add-bytes-2 : tie.Need-add-bytes-2
 add-bytes-2 c =
     let a = c .before .before .before .before .before .before .args in
     omega (arith, size-bound (length (a .categories .now)) (listed (a .base) (a .anchor .now) (a .categories .now)) (c .before .before .before .measure .result .count) (c .before .before .before .measure .result .steps) (c .before .before .before .measure .ensures .count-is) (c .before .before .before .measure .ensures .steps-are) (c .before .number-size .result) (c .before .number-size .ensures) (listed-most (a .base) (a .anchor .now) (a .categories .now) (c .before .before .before .before .before .before .pre)), (c .varint-size .ensures), varint-length (c .before .before .before .measure .result .count))
 
--- src/lib.rt:166:17
 add-bytes-3 : tie.Need-add-bytes-3
 add-bytes-3 c =
     let a = c .before .before .before .before .before .before .args in
     omega (arith, size-bound (length (a .categories .now)) (listed (a .base) (a .anchor .now) (a .categories .now)) (c .before .before .before .measure .result .count) (c .before .before .before .measure .result .steps) (c .before .before .before .measure .ensures .count-is) (c .before .before .before .measure .ensures .steps-are) (c .before .number-size .result) (c .before .number-size .ensures) (listed-most (a .base) (a .anchor .now) (a .categories .now) (c .before .before .before .before .before .before .pre)), (c .varint-size .ensures), varint-length (c .before .before .before .measure .result .count))
 
--- src/lib.rt:166:17
 add-bytes-4 : tie.Need-add-bytes-4
 add-bytes-4 c =
     let a = c .before .before .before .before .before .before .before .args in
     omega (arith, size-bound (length (a .categories .now)) (listed (a .base) (a .anchor .now) (a .categories .now)) (c .before .before .before .before .measure .result .count) (c .before .before .before .before .measure .result .steps) (c .before .before .before .before .measure .ensures .count-is) (c .before .before .before .before .measure .ensures .steps-are) (c .before .before .number-size .result) (c .before .before .number-size .ensures) (listed-most (a .base) (a .anchor .now) (a .categories .now) (c .before .before .before .before .before .before .before .pre)), (c .before .varint-size .ensures), varint-length (c .before .before .before .before .measure .result .count))
 
--- src/lib.rt:154:1
 returns-2 : tie.Need-returns-2
 returns-2 c =
     let a = c .before .before .before .before .before .before .before .args in

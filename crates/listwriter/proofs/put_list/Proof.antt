@@ -7,47 +7,35 @@ use native.Mathlib.Omega.{arith}
 use borrow.Author.Needs.{needs}
 use Rattle.listwriter.proofs.put_list.Statement.{statement}
 use Rattle.listwriter.proofs.put_list.Tie as tie
-use Rattle.listwriter.proofs.put_list.Reads as reads
-use Rattle.listwriter.proofs.put_list.Lts as lts
-use Rattle.bytewriter.proofs.put_varint.Reads as put-varint-reads
-use Rattle.listparts.proofs.put_part.Reads as put-part-reads
-use Rattle.listwriter.proofs.put_values.Reads as put-values-reads
 
--- src/lib.rt:184:9
 put-varint-requires : tie.Need-put-varint-requires
 put-varint-requires c κs =
     let a = c .before .before .before .before .args in
     (room-0 (length (a .categories .now)) (listed (a .base) (a .anchor .now) (a .categories .now)) (a .output .now) (a .at) (a .count) (c .before .before .before .before .pre .0 .1) (c .before .before .before .before .pre .1), omega (arith, listed-most (a .base) (a .anchor .now) (a .categories .now) (c .before .before .before .before .pre .0 .0), (c .before .before .before .before .pre .0 .1)))
 
--- src/lib.rt:185:9
 put-part-requires : tie.Need-put-part-requires
 put-part-requires c κs =
     let a = c .before .before .before .before .before .before .before .before .args in
     ((c .before .before .before .before .before .before .before .before .pre .0 .0), room-1 (length (a .categories .now)) (listed (a .base) (a .anchor .now) (a .categories .now)) (a .output .now) (a .at) (a .count) (c .before .before .before .before .before .before .before .before .pre .0 .1) (c .before .before .before .before .before .before .before .before .pre .1) (c .before .before .before .put-varint .ensures))
 
--- src/lib.rt:186:9
 put-part-requires-2 : tie.Need-put-part-requires-2
 put-part-requires-2 c κs =
     let a = c .before .before .before .before .before .before .before .before .before .before .before .before .args in
     ((c .before .before .before .before .before .before .before .before .before .before .before .before .pre .0 .0), room-2 (length (a .categories .now)) (listed (a .base) (a .anchor .now) (a .categories .now)) (a .output .now) (a .at) (a .count) (c .before .before .before .before .before .before .before .before .before .before .before .before .pre .0 .1) (c .before .before .before .before .before .before .before .before .before .before .before .before .pre .1) (c .before .before .before .before .before .before .before .put-varint .ensures) (c .before .before .before .put-part .ensures))
 
--- src/lib.rt:187:9
 put-values-requires : tie.Need-put-values-requires
 put-values-requires c κs =
     let a = c .before .before .before .before .before .before .before .before .before .before .before .before .before .before .before .before .args in
     ((c .before .before .before .before .before .before .before .before .before .before .before .before .before .before .before .before .pre .0 .0), room-3 (length (a .categories .now)) (listed (a .base) (a .anchor .now) (a .categories .now)) (a .output .now) (a .at) (a .count) (c .before .before .before .before .before .before .before .before .before .before .before .before .before .before .before .before .pre .0 .1) (c .before .before .before .before .before .before .before .before .before .before .before .before .before .before .before .before .pre .1) (c .before .before .before .before .before .before .before .before .before .before .before .put-varint .ensures) (c .before .before .before .before .before .before .before .put-part .ensures) (c .before .before .before .put-part2 .ensures))
 
--- src/lib.rt:188:5
 put-part-requires-3 : tie.Need-put-part-requires-3
 put-part-requires-3 c κs =
     let a = c .before .before .before .before .before .before .before .before .before .before .before .before .before .before .before .before .before .before .before .before .args in
     ((c .before .before .before .before .before .before .before .before .before .before .before .before .before .before .before .before .before .before .before .before .pre .0 .0), room-4 (length (a .categories .now)) (listed (a .base) (a .anchor .now) (a .categories .now)) (a .output .now) (a .at) (a .count) (c .before .before .before .before .before .before .before .before .before .before .before .before .before .before .before .before .before .before .before .before .pre .0 .1) (c .before .before .before .before .before .before .before .before .before .before .before .before .before .before .before .before .before .before .before .before .pre .1) (c .before .before .before .before .before .before .before .before .before .before .before .before .before .before .before .put-varint .ensures) (c .before .before .before .before .before .before .before .before .before .before .before .put-part .ensures) (c .before .before .before .before .before .before .before .put-part2 .ensures) (c .before .before .before .put-values .ensures))
 
--- src/lib.rt:172:1
 same-length : tie.Need-same-length
 same-length c = search needs
 
--- src/lib.rt:172:1
 returns : tie.Need-returns
 returns c =
     let a = c .before .before .before .before .before .before .before .before .before .before .before .before .before .before .before .before .before .before .before .before .before .before .before .args in

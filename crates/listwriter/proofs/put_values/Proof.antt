@@ -12,10 +12,6 @@ use native.Mathlib.Omega.{arith}
 use Prim.Native.Nat.{_+_, _-_}
 use Rattle.listwriter.proofs.put_values.Statement.{statement}
 use Rattle.listwriter.proofs.put_values.Tie as tie
-use Rattle.listwriter.proofs.put_values.Reads as reads
-use Rattle.listwriter.proofs.put_values.Lts as lts
-use Rattle.listparts.proofs.sample_at.Reads as sample-at-reads
-use Rattle.listwriter.proofs.put_value.Reads as put-value-reads
 
 abbrev Inv-loop : tie.InvT-loop
 Inv-loop base categories anchor output₀ at packing₀ i₀ output packing i = Inv (base-row base anchor categories) (row base categories) (length output₀) (at + length (values-bytes (listed base anchor categories))) (sets output₀ at (values-bytes (listed base anchor categories))) output packing i
@@ -23,61 +19,48 @@ Inv-loop base categories anchor output₀ at packing₀ i₀ output packing i = 
 abbrev μ-loop : tie.MeasureT-loop
 μ-loop base categories anchor output₀ at packing₀ i₀ output packing i = length categories - i
 
--- src/lib.rt:83:5
 loop-holds : tie.Need-loop-holds Inv-loop μ-loop
 loop-holds c =
     let a = c .before .before .before .args in
     start (base-row (a .base) (a .anchor .now) (a .categories .now)) (row (a .base) (a .categories .now)) (a .output .now) (a .at)
 
--- src/lib.rt:84:13
 sample-at-requires : tie.Need-sample-at-requires Inv-loop μ-loop
 sample-at-requires c κs = ((c .loop-test .taken), (c .before .before .before .before .before .pre .0))
 
--- src/lib.rt:85:9
 put-value-requires : tie.Need-put-value-requires Inv-loop μ-loop
 put-value-requires c κs =
     let a = c .before .before .before .before .before .before .before .args in
     (rw (c .before .sample-at .ensures .0) (below-at 4 (row (a .base) (a .categories .now)) (c .before .before .before .loop .i) (omega arith) (row-below (a .base) (a .categories .now) (c .before .before .before .before .before .before .before .pre .0 .small))), ((c .before .before .before .loop .inv .fits), omega (arith, turn-room (c .before .before .before .loop .inv) (omega (arith, (c .before .before .loop-test .taken), (c .before .before .before .before .before .before .before .pre .0 .each))) (omega (arith, (c .before .before .loop-test .taken), row-length (a .base) (a .categories .now))) (c .before .sample-at .result .base) (c .before .sample-at .result .value) (c .before .sample-at .ensures .1) (c .before .sample-at .ensures .0), (c .before .before .before .loop .inv .keeps), (c .before .before .before .before .before .before .before .pre .1))))
 
--- src/lib.rt:86:13
 add-i : tie.Need-add-i Inv-loop μ-loop
 add-i c = search needs
 
--- src/lib.rt:83:5
 loop-less : tie.Need-loop-less Inv-loop μ-loop
 loop-less c = search needs
 
--- src/lib.rt:83:5
 loop-again : tie.Need-loop-again Inv-loop μ-loop
 loop-again c =
     let a = c .before .before .before .before .before .before .before .before .before .before .args in
     turn-next (c .before .before .before .before .before .before .loop .inv) (omega (arith, (c .before .before .before .before .before .loop-test .taken), (c .before .before .before .before .before .before .before .before .before .before .pre .0 .each))) (omega (arith, (c .before .before .before .before .before .loop-test .taken), row-length (a .base) (a .categories .now))) (c .before .before .before .before .sample-at .result .base) (c .before .before .before .before .sample-at .result .value) (c .before .before .before .before .sample-at .ensures .1) (c .before .before .before .before .sample-at .ensures .0) (rw (c .before .before .before .before .sample-at .ensures .0) (below-at 4 (row (a .base) (a .categories .now)) (c .before .before .before .before .before .before .loop .i) (omega arith) (row-below (a .base) (a .categories .now) (c .before .before .before .before .before .before .before .before .before .before .pre .0 .small)))) (c .before .before .put-value .ensures)
 
--- src/lib.rt:91:9
 same-length : tie.Need-same-length Inv-loop μ-loop
 same-length c = (c .before .before .before .loop .inv .keeps)
 
--- src/lib.rt:91:9
 returns : tie.Need-returns Inv-loop μ-loop
 returns c = let h = turn-even (c .before .before .before .loop .inv) (omega (arith, (c .before .before .loop-test .left), (c .before .before .before .before .before .before .before .pre .0 .each))) (c .if1 .taken) in record { place = h .1; same = h .0 }
 
--- src/lib.rt:93:21
 cast-output : tie.Need-cast-output Inv-loop μ-loop
 cast-output c = omega (arith, (c .before .before .before .loop .inv .fits .below), packing-small (c .before .before .before .loop .packing .scale) (c .before .before .before .loop .packing .byte) (c .before .before .before .loop .inv .fits))
 
--- src/lib.rt:93:5
 slice-write-output : tie.Need-slice-write-output Inv-loop μ-loop
 slice-write-output c = let h = turn-odd (c .before .before .before .loop .inv) (omega (arith, (c .before .before .loop-test .left), (c .before .before .before .before .before .before .before .pre .0 .each))) (c .if1 .left) in omega (arith, h .1, (c .before .before .before .loop .inv .keeps), (c .before .before .before .before .before .before .before .pre .1))
 
--- src/lib.rt:94:5
 add-result : tie.Need-add-result Inv-loop μ-loop
 add-result c = let h = turn-odd (c .before .before .before .loop .inv) (omega (arith, (c .before .before .loop-test .left), (c .before .before .before .before .before .before .before .pre .0 .each))) (c .if1 .left) in omega (arith, h .1, (c .before .before .before .loop .inv .keeps), (c .before .before .before .before .before .before .before .pre .1), (c .before .before .before .before .before .before .before .good))
 
--- src/lib.rt:72:1
 same-length-2 : tie.Need-same-length-2 Inv-loop μ-loop
 same-length-2 c = simp length-set (c .before .before .before .loop .inv .keeps)
 
--- src/lib.rt:72:1
 returns-2 : tie.Need-returns-2 Inv-loop μ-loop
 returns-2 c = let h = turn-odd (c .before .before .before .loop .inv) (omega (arith, (c .before .before .loop-test .left), (c .before .before .before .before .before .before .before .pre .0 .each))) (c .if1 .left) in record { place = h .1; same = h .0 }
 

@@ -4,23 +4,16 @@ use Rattle.listwriter.proofs.CountLaws.{size-first, size-step}
 use borrow.Author.Needs.{needs}
 use Rattle.listwriter.proofs.step_size.Statement.{statement}
 use Rattle.listwriter.proofs.step_size.Tie as tie
-use Rattle.listwriter.proofs.step_size.Reads as reads
-use Rattle.listwriter.proofs.step_size.Lts as lts
-use Rattle.bytewriter.proofs.varint_size.Reads as varint-size-reads
 
--- src/lib.rt:103:9
 returns : tie.Need-returns
 returns c = size-first (c .before .before .args .group) (c .before .before .args .sample) (c .if1 .taken)
 
--- src/lib.rt:105:17
 sub-varint-size : tie.Need-sub-varint-size
 sub-varint-size c = search needs
 
--- src/lib.rt:105:5
 varint-size-requires : tie.Need-varint-size-requires
 varint-size-requires c κs = search needs
 
--- src/lib.rt:98:1
 returns-2 : tie.Need-returns-2
 returns-2 c = size-step (c .before .before .before .before .args .group) (c .before .before .before .before .args .sample) (c .varint-size .result) (c .before .before .if1 .left) (c .varint-size .ensures)
 

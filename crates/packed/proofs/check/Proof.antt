@@ -1,3 +1,5 @@
+-- `packed::check` meets its contract.
+-- Assumes nothing.
 use native.Mathlib.Omega.{arith}
 use Rattle.packed.proofs.CheckLaws.{check-short, check-unused, check-fits, size-of-unused}
 use Rattle.packed.specs.Arrays.{bits-of}
@@ -5,15 +7,12 @@ use borrow.Author.Needs.{needs}
 use Rattle.packed.proofs.check.Statement.{statement}
 use Rattle.packed.proofs.check.Tie as tie
 
--- src/lib.rt:91:9
 size-of-requires : tie.Need-size-of-requires
 size-of-requires c κs = search needs
 
--- src/lib.rt:92:15
 sub-if1 : tie.Need-sub-if1
 sub-if1 c = search needs
 
--- src/lib.rt:93:9
 returns : tie.Need-returns
 returns c =
     let args = c .before .before .before .args in
@@ -21,15 +20,12 @@ returns c =
     check-short (bits-of (args .width)) (args .s .now) (args .at) (args .n) (size-of .result) (size-of .ensures) (c .before .before .before .pre .0)
     (c .if1 .taken)
 
--- src/lib.rt:98:8
 unused-bits-requires : tie.Need-unused-bits-requires
 unused-bits-requires c κs = search needs
 
--- src/lib.rt:101:20
 add-t11 : tie.Need-add-t11
 add-t11 c = search needs
 
--- src/lib.rt:101:20
 sub-t12 : tie.Need-sub-t12
 sub-t12 c =
     let args = c .before .before .before .before .before .args in
@@ -37,7 +33,6 @@ sub-t12 c =
     omega
     (arith, size-of-unused (bits-of (args .width)) (args .s .now) (args .at) (args .n) (unused-bits .result) (unused-bits .ensures) (c .if2 .taken), c .before .before .before .size-of .ensures)
 
--- src/lib.rt:99:9
 returns-2 : tie.Need-returns-2
 returns-2 c =
     let args = c .before .before .before .before .before .args in
@@ -47,11 +42,9 @@ returns-2 c =
     (c .before .before .before .before .before .pre .0) (λ i. c .before .before .before .before .shared-slice-known .given i .fits)
     (c .before .before .if1 .left) (unused-bits .result) (unused-bits .ensures) (c .if2 .taken)
 
--- src/lib.rt:104:22
 add-t6 : tie.Need-add-t6
 add-t6 c = search needs
 
--- src/lib.rt:87:1
 returns-3 : tie.Need-returns-3
 returns-3 c =
     let args = c .before .before .before .before .before .args in

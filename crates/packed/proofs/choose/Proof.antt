@@ -1,3 +1,5 @@
+-- `packed::choose` meets its contract.
+-- Assumes nothing.
 use native.Mathlib.Omega.{arith}
 use borrow.Author.Needs.{needs}
 use Rattle.packed.specs.Unpacked.{of-pair}
@@ -15,42 +17,33 @@ Inv-loop row₀ n lower higher i₀ row i = (i ≤ n) × ((length row ≡ length
 abbrev μ-loop : tie.MeasureT-loop
 μ-loop row₀ n lower higher i₀ row i = n - i
 
--- src/lib.rt:197:5
 loop-holds : tie.Need-loop-holds Inv-loop μ-loop
 loop-holds c = search needs
 
--- src/lib.rt:198:26
 slice-read-of-pair : tie.Need-slice-read-of-pair Inv-loop μ-loop
 slice-read-of-pair c = search needs
 
--- src/lib.rt:198:18
 of-pair-requires : tie.Need-of-pair-requires Inv-loop μ-loop
 of-pair-requires c κs = search needs
 
--- src/lib.rt:198:9
 slice-write-row : tie.Need-slice-write-row Inv-loop μ-loop
 slice-write-row c = search needs
 
--- src/lib.rt:197:9
 add-i : tie.Need-add-i Inv-loop μ-loop
 add-i c = search needs
 
--- src/lib.rt:197:5
 loop-less : tie.Need-loop-less Inv-loop μ-loop
 loop-less c = search needs
 
--- src/lib.rt:197:5
 loop-again : tie.Need-loop-again Inv-loop μ-loop
 loop-again c =
     let args = c .before .before .before .before .before .args in
     let loop = c .before .before .before .loop in
     (omega arith, (simp length-set (loop .inv .1 .0), map-more (of-pair (args .lower) (args .higher)) (loop .i) (args .row .now) (loop .row) (loop .inv .1 .1) (omega (arith, c .before .before .before .before .before .pre, c .before .before .loop-test .taken)) (c .of-pair .result) (c .of-pair .ensures)))
 
--- src/lib.rt:193:1
 same-length : tie.Need-same-length Inv-loop μ-loop
 same-length c = search needs
 
--- src/lib.rt:193:1
 returns : tie.Need-returns Inv-loop μ-loop
 returns c =
     let e : c .before .loop .i ≡ c .before .before .before .args .n = omega (arith, c .before .loop .inv .0, c .loop-test .left) in rw e at

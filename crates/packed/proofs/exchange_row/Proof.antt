@@ -1,3 +1,5 @@
+-- `packed::exchange_row` meets its contract.
+-- Assumes nothing.
 use native.Mathlib.Omega.{arith}
 use borrow.Author.Needs.{needs}
 use Rattle.format.specs.Category.{exchange}
@@ -15,41 +17,32 @@ Inv-loop row₀ n i₀ row i = (i ≤ n) × ((length row ≡ length row₀) × (
 abbrev μ-loop : tie.MeasureT-loop
 μ-loop row₀ n i₀ row i = n - i
 
--- src/lib.rt:264:5
 loop-holds : tie.Need-loop-holds Inv-loop μ-loop
 loop-holds c = search needs
 
--- src/lib.rt:265:28
 slice-read-exchanged : tie.Need-slice-read-exchanged Inv-loop μ-loop
 slice-read-exchanged c = search needs
 
--- src/lib.rt:265:18
 exchanged-requires : tie.Need-exchanged-requires Inv-loop μ-loop
 exchanged-requires c κs = search needs
 
--- src/lib.rt:265:9
 slice-write-row : tie.Need-slice-write-row Inv-loop μ-loop
 slice-write-row c = search needs
 
--- src/lib.rt:264:9
 add-i : tie.Need-add-i Inv-loop μ-loop
 add-i c = search needs
 
--- src/lib.rt:264:5
 loop-less : tie.Need-loop-less Inv-loop μ-loop
 loop-less c = search needs
 
--- src/lib.rt:264:5
 loop-again : tie.Need-loop-again Inv-loop μ-loop
 loop-again c =
     let loop = c .before .before .before .loop in
     (omega arith, (simp length-set (loop .inv .1 .0), map-more exchange (loop .i) (c .before .before .before .before .before .args .row .now) (loop .row) (loop .inv .1 .1) (omega (arith, c .before .before .before .before .before .pre, c .before .before .loop-test .taken)) (c .exchanged .result) (c .exchanged .ensures)))
 
--- src/lib.rt:260:1
 same-length : tie.Need-same-length Inv-loop μ-loop
 same-length c = search needs
 
--- src/lib.rt:260:1
 returns : tie.Need-returns Inv-loop μ-loop
 returns c =
     let e : c .before .loop .i ≡ c .before .before .before .args .n = omega (arith, c .before .loop .inv .0, c .loop-test .left) in rw e at

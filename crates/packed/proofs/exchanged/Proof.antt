@@ -1,17 +1,16 @@
+-- `packed::exchanged` meets its contract.
+-- Assumes nothing.
 use Rattle.packed.proofs.PutLaws.{exchange-kept}
 use borrow.Author.Needs.{needs}
 use Rattle.packed.proofs.exchanged.Statement.{statement}
 use Rattle.packed.proofs.exchanged.Tie as tie
 
--- src/lib.rt:251:9
 returns : tie.Need-returns
 returns c = search needs
 
--- src/lib.rt:254:9
 returns-2 : tie.Need-returns-2
 returns-2 c = search needs
 
--- src/lib.rt:247:1
 returns-3 : tie.Need-returns-3
 returns-3 c = exchange-kept (c .before .before .args .category) (c .before .if1 .left) (c .if2 .left)
 

@@ -1,3 +1,5 @@
+-- `packed::fill` meets its contract.
+-- Assumes nothing.
 use native.Mathlib.Omega.{arith}
 use borrow.Author.Needs.{needs}
 use borrow.Author.Fill.{fill-more}
@@ -14,33 +16,26 @@ Inv-loop row₀ n category i₀ row i = (i ≤ n) × ((length row ≡ length row
 abbrev μ-loop : tie.MeasureT-loop
 μ-loop row₀ n category i₀ row i = n - i
 
--- src/lib.rt:223:5
 loop-holds : tie.Need-loop-holds Inv-loop μ-loop
 loop-holds c = search needs
 
--- src/lib.rt:224:9
 slice-write-row : tie.Need-slice-write-row Inv-loop μ-loop
 slice-write-row c = search needs
 
--- src/lib.rt:223:9
 add-i : tie.Need-add-i Inv-loop μ-loop
 add-i c = search needs
 
--- src/lib.rt:223:5
 loop-less : tie.Need-loop-less Inv-loop μ-loop
 loop-less c = search needs
 
--- src/lib.rt:223:5
 loop-again : tie.Need-loop-again Inv-loop μ-loop
 loop-again c =
     let args = c .before .before .args in
     (omega arith, (simp length-set (c .before .loop .inv .1 .0), rw (c .before .loop .inv .1 .1) (fill-more (c .before .loop .i) (args .category) (args .row .now) (omega (arith, c .before .before .pre, c .loop-test .taken)))))
 
--- src/lib.rt:219:1
 same-length : tie.Need-same-length Inv-loop μ-loop
 same-length c = search needs
 
--- src/lib.rt:219:1
 returns : tie.Need-returns Inv-loop μ-loop
 returns c =
     let e : c .before .loop .i ≡ c .before .before .args .n = omega (arith, c .before .loop .inv .0, c .loop-test .left) in rw e at

@@ -1,12 +1,12 @@
+-- `packed::of_pair` meets its contract.
+-- Assumes nothing.
 use Rattle.packed.proofs.PutLaws.{pair-lower, pair-higher}
 use Rattle.packed.proofs.of_pair.Statement.{statement}
 use Rattle.packed.proofs.of_pair.Tie as tie
 
--- src/lib.rt:186:1
 returns : tie.Need-returns
 returns c = pair-lower (c .before .args .lower) (c .before .args .higher) (c .before .args .bit) (c .if1 .taken)
 
--- src/lib.rt:186:1
 returns-2 : tie.Need-returns-2
 returns-2 c = pair-higher (c .before .args .lower) (c .before .args .higher) (c .before .args .bit) (c .if1 .left)
 

@@ -1,3 +1,5 @@
+-- `packed::put_four` meets its contract.
+-- Assumes nothing.
 use Rattle.packed.proofs.PutLaws.{four-put}
 use native.Mathlib.Omega.{arith}
 use lib.ListN.{length-set}
@@ -5,79 +7,60 @@ use borrow.Author.Needs.{needs}
 use Rattle.packed.proofs.put_four.Statement.{statement}
 use Rattle.packed.proofs.put_four.Tie as tie
 
--- src/lib.rt:112:26
 mul-x : tie.Need-mul-x
 mul-x c = search needs
 
--- src/lib.rt:112:13
 add-x : tie.Need-add-x
 add-x c = search needs
 
--- src/lib.rt:112:45
 mul-x-2 : tie.Need-mul-x-2
 mul-x-2 c = search needs
 
--- src/lib.rt:112:13
 add-x-2 : tie.Need-add-x-2
 add-x-2 c = search needs
 
--- src/lib.rt:112:66
 mul-x-3 : tie.Need-mul-x-3
 mul-x-3 c = search needs
 
--- src/lib.rt:112:13
 add-x-3 : tie.Need-add-x-3
 add-x-3 c = search needs
 
--- src/lib.rt:113:15
 cast-row : tie.Need-cast-row
 cast-row c = search needs
 
--- src/lib.rt:113:5
 slice-write-row : tie.Need-slice-write-row
 slice-write-row c = search needs
 
--- src/lib.rt:114:19
 cast-row-2 : tie.Need-cast-row-2
 cast-row-2 c = search needs
 
--- src/lib.rt:114:9
 add-row : tie.Need-add-row
 add-row c = search needs
 
--- src/lib.rt:114:5
 slice-write-row-2 : tie.Need-slice-write-row-2
 slice-write-row-2 c = simp length-set (omega arith)
 
--- src/lib.rt:115:19
 cast-row-3 : tie.Need-cast-row-3
 cast-row-3 c = search needs
 
--- src/lib.rt:115:9
 add-row-2 : tie.Need-add-row-2
 add-row-2 c = search needs
 
--- src/lib.rt:115:5
 slice-write-row-3 : tie.Need-slice-write-row-3
 slice-write-row-3 c = simp length-set (omega arith)
 
--- src/lib.rt:116:19
 cast-row-4 : tie.Need-cast-row-4
 cast-row-4 c = search needs
 
--- src/lib.rt:116:9
 add-row-3 : tie.Need-add-row-3
 add-row-3 c = search needs
 
--- src/lib.rt:116:5
 slice-write-row-4 : tie.Need-slice-write-row-4
 slice-write-row-4 c = simp length-set (omega arith)
 
--- src/lib.rt:108:1
 same-length : tie.Need-same-length
 same-length c = search needs
 
--- src/lib.rt:108:1
 returns : tie.Need-returns
 returns c = four-put (c .args .a) (c .args .b) (c .args .c) (c .args .d) (omega arith) (omega arith) (omega arith) (c .args .row .now) (c .args .at)
 

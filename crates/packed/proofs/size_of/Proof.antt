@@ -1,28 +1,24 @@
+-- `packed::size_of` meets its contract.
+-- Assumes nothing.
 use borrow.Author.Needs.{needs}
 use Rattle.packed.proofs.size_of.Statement.{statement}
 use Rattle.packed.proofs.size_of.Tie as tie
 
--- src/lib.rt:31:24
 enum-told : tie.Need-enum-told
 enum-told c = search needs
 
--- src/lib.rt:31:24
 add-result : tie.Need-add-result
 add-result c = search needs
 
--- src/lib.rt:32:24
 enum-told-2 : tie.Need-enum-told-2
 enum-told-2 c = search needs
 
--- src/lib.rt:32:24
 add-result-2 : tie.Need-add-result-2
 add-result-2 c = search needs
 
--- src/lib.rt:26:1
 returns : tie.Need-returns
 returns c = rw (c .enum-told .given .1)
 
--- src/lib.rt:26:1
 returns-2 : tie.Need-returns-2
 returns-2 c = rw (c .enum-told2 .given .1)
 

@@ -1,3 +1,5 @@
+-- `packed::store_numbers` meets its contract.
+-- Assumes nothing.
 use native.Mathlib.Omega.{arith}
 use Prim.Native.Nat.{_+_, _*_, _/_, _≤_}
 use lib.ListN.{length}
@@ -8,11 +10,9 @@ use borrow.Author.Needs.{needs}
 use Rattle.packed.proofs.store_numbers.Statement.{statement}
 use Rattle.packed.proofs.store_numbers.Tie as tie
 
--- src/lib.rt:160:33
 enum-told : tie.Need-enum-told
 enum-told c = search needs
 
--- src/lib.rt:160:13
 store-octets-requires : tie.Need-store-octets-requires
 store-octets-requires c κs =
     let args = c .before .before .before .before .before .args in
@@ -20,11 +20,9 @@ store-octets-requires c κs =
     let h : args .at + packed-size one (args .n) ≤ length (args .s .now) = rw (c .before .enum-told .given .1) at (pre .1) in
     (omega (arith, h), omega (arith, pre .0))
 
--- src/lib.rt:161:31
 mul-store-rest : tie.Need-mul-store-rest
 mul-store-rest c = search needs
 
--- src/lib.rt:161:13
 store-rest-requires : tie.Need-store-rest-requires
 store-rest-requires c κs =
     let args = c .before .before .before .before .before .before .before .before .before .args in
@@ -32,11 +30,9 @@ store-rest-requires c κs =
     let h : args .at + packed-size one (args .n) ≤ length (args .s .now) = rw (c .before .before .before .before .before .enum-told .given .1) at
     (pre .1) in ((omega arith, omega (arith, pre .0, c .before .before .before .store-octets .kept .1 .1 .1 .0)), h)
 
--- src/lib.rt:164:32
 enum-told-2 : tie.Need-enum-told-2
 enum-told-2 c = search needs
 
--- src/lib.rt:164:13
 store-quads-requires : tie.Need-store-quads-requires
 store-quads-requires c κs =
     let args = c .before .before .before .before .before .args in
@@ -44,11 +40,9 @@ store-quads-requires c κs =
     let h : args .at + packed-size two (args .n) ≤ length (args .s .now) = rw (c .before .enum-told2 .given .1) at (pre .1) in
     (omega (arith, h), omega (arith, pre .0))
 
--- src/lib.rt:165:31
 mul-store-rest-2 : tie.Need-mul-store-rest-2
 mul-store-rest-2 c = search needs
 
--- src/lib.rt:165:13
 store-rest-requires-2 : tie.Need-store-rest-requires-2
 store-rest-requires-2 c κs =
     let args = c .before .before .before .before .before .before .before .before .before .args in
@@ -56,11 +50,9 @@ store-rest-requires-2 c κs =
     let h : args .at + packed-size two (args .n) ≤ length (args .s .now) = rw (c .before .before .before .before .before .enum-told2 .given .1) at
     (pre .1) in ((omega arith, omega (arith, pre .0, c .before .before .before .store-quads .kept .1 .1 .1 .0)), h)
 
--- src/lib.rt:154:1
 same-length : tie.Need-same-length
 same-length c = search needs
 
--- src/lib.rt:154:1
 returns : tie.Need-returns
 returns c =
     let args = c .before .before .before .before .before .before .before .before .before .before .before .before .args in
@@ -69,11 +61,9 @@ returns c =
     rw (c .before .before .before .before .before .before .before .before .enum-told .given .1)
     (both-stored (number-in one (args .s .now) (args .at)) (8 * (args .n / 8)) (args .n) (args .row .now) (store-octets .last .1 .1 .1 .0) (store-rest .last .1 .1 .1 .1 .1 .0) (omega arith) (c .before .before .before .before .before .before .before .before .before .before .before .before .pre .0) (store-octets .ensures) (store-rest .ensures))
 
--- src/lib.rt:154:1
 same-length-2 : tie.Need-same-length-2
 same-length-2 c = search needs
 
--- src/lib.rt:154:1
 returns-2 : tie.Need-returns-2
 returns-2 c =
     let args = c .before .before .before .before .before .before .before .before .before .before .before .before .args in

@@ -1,3 +1,5 @@
+-- `packed::store_octets` meets its contract.
+-- Assumes nothing.
 use Rattle.packed.proofs.PutLaws.{none-stored}
 use native.Mathlib.Omega.{arith}
 use borrow.Author.Needs.{needs}
@@ -16,49 +18,38 @@ Inv-loop s at full row₀ i₀ row i = (i ≤ full) × ((length row ≡ length r
 abbrev μ-loop : tie.MeasureT-loop
 μ-loop s at full row₀ i₀ row i = full - i
 
--- src/lib.rt:135:5
 loop-holds : tie.Need-loop-holds Inv-loop μ-loop
 loop-holds c =
     let args = c .before .before .args in
     (omega arith, (refl, none-stored (number-in one (args .s .now) (args .at)) 8 (args .full) (args .row .now)))
 
--- src/lib.rt:136:19
 add-b : tie.Need-add-b Inv-loop μ-loop
 add-b c = search needs
 
--- src/lib.rt:136:17
 shared-slice-read-b : tie.Need-shared-slice-read-b Inv-loop μ-loop
 shared-slice-read-b c = search needs
 
--- src/lib.rt:137:23
 mul-put-four : tie.Need-mul-put-four Inv-loop μ-loop
 mul-put-four c = search needs
 
--- src/lib.rt:137:9
 put-four-requires : tie.Need-put-four-requires Inv-loop μ-loop
 put-four-requires c κs = search needs
 
--- src/lib.rt:138:23
 mul-put-four-2 : tie.Need-mul-put-four-2 Inv-loop μ-loop
 mul-put-four-2 c = search needs
 
--- src/lib.rt:138:23
 add-put-four : tie.Need-add-put-four Inv-loop μ-loop
 add-put-four c = search needs
 
--- src/lib.rt:138:9
 put-four-requires-2 : tie.Need-put-four-requires-2 Inv-loop μ-loop
 put-four-requires-2 c κs = search needs
 
--- src/lib.rt:135:9
 add-i : tie.Need-add-i Inv-loop μ-loop
 add-i c = search needs
 
--- src/lib.rt:135:5
 loop-less : tie.Need-loop-less Inv-loop μ-loop
 loop-less c = search needs
 
--- src/lib.rt:135:5
 loop-again : tie.Need-loop-again Inv-loop μ-loop
 loop-again c =
     let args = c .before .before .before .before .before .before .before .before .before .before .before .before .before .args in
@@ -67,11 +58,9 @@ loop-again c =
     let put-four2 = c .before .before .put-four2 in
     (omega arith, (put-four2 .kept .0 ∙ put-four .kept .0 ∙ loop .inv .1 .0, octet-turn (args .s .now) (args .at) (args .full) (loop .i) (loop .row) (put-four .last .0) (put-four2 .last .0) _ (c .before .before .before .before .before .before .before .before .before .loop-test .taken) (c .before .before .before .before .before .before .before .before .before .before .before .before .shared-slice-known .given _ .fits) (put-four .ensures) (put-four2 .ensures) (loop .inv .1 .1)))
 
--- src/lib.rt:131:1
 same-length : tie.Need-same-length Inv-loop μ-loop
 same-length c = search needs
 
--- src/lib.rt:131:1
 returns : tie.Need-returns Inv-loop μ-loop
 returns c =
     let args = c .before .before .before .before .args in

@@ -1,3 +1,5 @@
+-- `packed::store_quads` meets its contract.
+-- Assumes nothing.
 use Rattle.packed.proofs.PutLaws.{none-stored}
 use native.Mathlib.Omega.{arith}
 use borrow.Author.Needs.{needs}
@@ -16,37 +18,29 @@ Inv-loop s at full row₀ i₀ row i = (i ≤ full) × ((length row ≡ length r
 abbrev μ-loop : tie.MeasureT-loop
 μ-loop s at full row₀ i₀ row i = full - i
 
--- src/lib.rt:124:5
 loop-holds : tie.Need-loop-holds Inv-loop μ-loop
 loop-holds c =
     let args = c .before .before .args in
     (omega arith, (refl, none-stored (number-in two (args .s .now) (args .at)) 4 (args .full) (args .row .now)))
 
--- src/lib.rt:125:19
 add-b : tie.Need-add-b Inv-loop μ-loop
 add-b c = search needs
 
--- src/lib.rt:125:17
 shared-slice-read-b : tie.Need-shared-slice-read-b Inv-loop μ-loop
 shared-slice-read-b c = search needs
 
--- src/lib.rt:126:23
 mul-put-four : tie.Need-mul-put-four Inv-loop μ-loop
 mul-put-four c = search needs
 
--- src/lib.rt:126:9
 put-four-requires : tie.Need-put-four-requires Inv-loop μ-loop
 put-four-requires c κs = search needs
 
--- src/lib.rt:124:9
 add-i : tie.Need-add-i Inv-loop μ-loop
 add-i c = search needs
 
--- src/lib.rt:124:5
 loop-less : tie.Need-loop-less Inv-loop μ-loop
 loop-less c = search needs
 
--- src/lib.rt:124:5
 loop-again : tie.Need-loop-again Inv-loop μ-loop
 loop-again c =
     let args = c .before .before .before .before .before .before .before .before .before .args in
@@ -54,11 +48,9 @@ loop-again c =
     let put-four = c .before .before .put-four in
     (omega arith, (put-four .kept .0 ∙ loop .inv .1 .0, quad-turn (args .s .now) (args .at) (args .full) (loop .i) (loop .row) (put-four .last .0) _ (c .before .before .before .before .before .loop-test .taken) (c .before .before .before .before .before .before .before .before .shared-slice-known .given _ .fits) (put-four .ensures) (loop .inv .1 .1)))
 
--- src/lib.rt:120:1
 same-length : tie.Need-same-length Inv-loop μ-loop
 same-length c = search needs
 
--- src/lib.rt:120:1
 returns : tie.Need-returns Inv-loop μ-loop
 returns c =
     let args = c .before .before .before .before .args in

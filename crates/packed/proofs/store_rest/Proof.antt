@@ -1,3 +1,5 @@
+-- `packed::store_rest` meets its contract.
+-- Assumes nothing.
 use native.Mathlib.Omega.{arith}
 use borrow.Author.Needs.{needs}
 use Rattle.format.proofs.PackedLaws.{byte-there}
@@ -15,40 +17,32 @@ Inv-loop s at from n width row₀ k₀ row k = (k ≤ n) × ((length row ≡ len
 abbrev μ-loop : tie.MeasureT-loop
 μ-loop s at from n width row₀ k₀ row k = n - k
 
--- src/lib.rt:148:5
 loop-holds : tie.Need-loop-holds Inv-loop μ-loop
 loop-holds c = search needs
 
--- src/lib.rt:149:18
 number-at-requires : tie.Need-number-at-requires Inv-loop μ-loop
 number-at-requires c κs =
     let args = c .before .before .before .before .args in
     omega (arith, byte-there (bits-of (args .width)) (c .before .loop .k) (args .n) (c .loop-test .taken), c .before .before .before .before .pre .1)
 
--- src/lib.rt:149:9
 slice-write-row : tie.Need-slice-write-row Inv-loop μ-loop
 slice-write-row c = search needs
 
--- src/lib.rt:148:9
 add-k : tie.Need-add-k Inv-loop μ-loop
 add-k c = search needs
 
--- src/lib.rt:148:5
 loop-less : tie.Need-loop-less Inv-loop μ-loop
 loop-less c = search needs
 
--- src/lib.rt:148:5
 loop-again : tie.Need-loop-again Inv-loop μ-loop
 loop-again c =
     let args = c .before .before .before .before .before .args in
     let loop = c .before .before .loop in
     (omega arith, (simp length-set (loop .inv .1 .0), rest-turn (number-in (bits-of (args .width)) (args .s .now) (args .at)) (args .n) (loop .k) (c .number-at .result) (loop .row) _ (c .before .loop-test .taken) (c .number-at .ensures) (loop .inv .1 .1)))
 
--- src/lib.rt:143:1
 same-length : tie.Need-same-length Inv-loop μ-loop
 same-length c = search needs
 
--- src/lib.rt:143:1
 returns : tie.Need-returns Inv-loop μ-loop
 returns c =
     let args = c .before .before .before .before .args in

@@ -1,3 +1,5 @@
+-- `packed::unpack_categories` meets its contract.
+-- Assumes nothing.
 use Rattle.packed.proofs.CheckLaws.{was-accepted, two-refused, two-accepted}
 use Rattle.format.specs.Packed.{two}
 use mathlib.Core.Path.{sym, _∙_}
@@ -5,19 +7,15 @@ use borrow.Author.Needs.{needs}
 use Rattle.packed.proofs.unpack_categories.Statement.{statement}
 use Rattle.packed.proofs.unpack_categories.Tie as tie
 
--- src/lib.rt:175:9
 check-requires : tie.Need-check-requires
 check-requires c κs = search needs
 
--- src/lib.rt:177:31
 enum-known-checked : tie.Need-enum-known-checked
 enum-known-checked c = search needs
 
--- src/lib.rt:178:26
 enum-known-checked-2 : tie.Need-enum-known-checked-2
 enum-known-checked-2 c = search needs
 
--- src/lib.rt:179:13
 store-numbers-requires : tie.Need-store-numbers-requires
 store-numbers-requires c κs =
     let pre = c .before .before .before .before .before .before .before .pre in
@@ -25,7 +23,6 @@ store-numbers-requires c κs =
     let checked2 = c .before .before .checked2 in
     (pre .2, was-accepted two (args .s .now) (args .at) (args .n) (checked2 .given .0 .0) (λ i. c .before .before .before .before .before .before .shared-slice-known .given i .fits) (pre .0) (sym (checked2 .given .1) ∙ c .before .before .before .before .check .ensures) .inside)
 
--- src/lib.rt:171:1
 returns : tie.Need-returns
 returns c =
     let args = c .before .before .before .before .before .before .args in
@@ -33,11 +30,9 @@ returns c =
     two-refused (args .s .now) (args .at) (args .n) (args .row .now) (checked .given .0 .0) (checked .given .0 .1 .0)
     (sym (checked .given .1) ∙ c .before .before .before .check .ensures)
 
--- src/lib.rt:171:1
 same-length : tie.Need-same-length
 same-length c = search needs
 
--- src/lib.rt:171:1
 returns-2 : tie.Need-returns-2
 returns-2 c =
     let args = c .before .before .before .before .before .before .before .before .before .before .args in

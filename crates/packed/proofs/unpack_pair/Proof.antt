@@ -1,3 +1,5 @@
+-- `packed::unpack_pair` meets its contract.
+-- Assumes nothing.
 use Rattle.packed.proofs.CheckLaws.{was-accepted, one-refused, one-accepted}
 use Rattle.format.specs.Packed.{one}
 use mathlib.Core.Path.{sym, _∙_}
@@ -5,19 +7,15 @@ use borrow.Author.Needs.{needs}
 use Rattle.packed.proofs.unpack_pair.Statement.{statement}
 use Rattle.packed.proofs.unpack_pair.Tie as tie
 
--- src/lib.rt:207:9
 check-requires : tie.Need-check-requires
 check-requires c κs = search needs
 
--- src/lib.rt:209:31
 enum-known-checked : tie.Need-enum-known-checked
 enum-known-checked c = search needs
 
--- src/lib.rt:210:26
 enum-known-checked-2 : tie.Need-enum-known-checked-2
 enum-known-checked-2 c = search needs
 
--- src/lib.rt:211:13
 store-numbers-requires : tie.Need-store-numbers-requires
 store-numbers-requires c κs =
     let pre = c .before .before .before .before .before .before .before .pre in
@@ -25,11 +23,9 @@ store-numbers-requires c κs =
     let checked2 = c .before .before .checked2 in
     (pre .2, was-accepted one (args .s .now) (args .at) (args .n) (checked2 .given .0 .0) (λ i. c .before .before .before .before .before .before .shared-slice-known .given i .fits) (pre .0) (sym (checked2 .given .1) ∙ c .before .before .before .before .check .ensures) .inside)
 
--- src/lib.rt:212:13
 choose-requires : tie.Need-choose-requires
 choose-requires c κs = search needs
 
--- src/lib.rt:203:1
 returns : tie.Need-returns
 returns c =
     let args = c .before .before .before .before .before .before .args in
@@ -37,11 +33,9 @@ returns c =
     one-refused (args .s .now) (args .at) (args .n) (args .row .now) (args .lower) (args .higher) (checked .given .0 .0) (checked .given .0 .1 .0)
     (sym (checked .given .1) ∙ c .before .before .before .check .ensures)
 
--- src/lib.rt:203:1
 same-length : tie.Need-same-length
 same-length c = search needs
 
--- src/lib.rt:203:1
 returns-2 : tie.Need-returns-2
 returns-2 c =
     let args = c .before .before .before .before .before .before .before .before .before .before .before .before .before .before .args in

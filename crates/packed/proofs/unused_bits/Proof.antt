@@ -1,3 +1,5 @@
+-- `packed::unused_bits` meets its contract.
+-- Assumes nothing.
 use native.Mathlib.Omega.{arith}
 use Prim.Native.Nat.{_+_, _%_, _≤_}
 use lib.ListN.{length}
@@ -8,75 +10,60 @@ use borrow.Author.Needs.{needs}
 use Rattle.packed.proofs.unused_bits.Statement.{statement}
 use Rattle.packed.proofs.unused_bits.Tie as tie
 
--- src/lib.rt:72:16
 enum-told : tie.Need-enum-told
 enum-told c = search needs
 
--- src/lib.rt:73:17
 returns : tie.Need-returns
 returns c =
     let args = c .before .before .before .args in
     rw (c .before .enum-told .given .1) (unused-full one (args .s .now) (args .at) (args .n) (c .if1 .taken))
 
--- src/lib.rt:75:15
 add-result : tie.Need-add-result
 add-result c = search needs
 
--- src/lib.rt:75:13
 shared-slice-read-result : tie.Need-shared-slice-read-result
 shared-slice-read-result c =
     let args = c .before .before .before .before .args in
     let h : args .at + packed-size one (args .n) ≤ length (args .s .now) = rw (c .before .before .enum-told .given .1) at
     (c .before .before .before .before .pre .0) in omega (arith, h, c .before .if1 .left)
 
--- src/lib.rt:75:31
 cast-result : tie.Need-cast-result
 cast-result c = search needs
 
--- src/lib.rt:75:13
 shr-result : tie.Need-shr-result
 shr-result c = search needs
 
--- src/lib.rt:78:16
 enum-told-2 : tie.Need-enum-told-2
 enum-told-2 c = search needs
 
--- src/lib.rt:79:17
 returns-2 : tie.Need-returns-2
 returns-2 c =
     let args = c .before .before .before .args in
     rw (c .before .enum-told2 .given .1) (unused-full two (args .s .now) (args .at) (args .n) (c .if2 .taken))
 
--- src/lib.rt:81:15
 add-result-2 : tie.Need-add-result-2
 add-result-2 c = search needs
 
--- src/lib.rt:81:13
 shared-slice-read-result-2 : tie.Need-shared-slice-read-result-2
 shared-slice-read-result-2 c =
     let args = c .before .before .before .before .args in
     let h : args .at + packed-size two (args .n) ≤ length (args .s .now) = rw (c .before .before .enum-told2 .given .1) at
     (c .before .before .before .before .pre .0) in omega (arith, h, c .before .if2 .left)
 
--- src/lib.rt:81:31
 mul-result : tie.Need-mul-result
 mul-result c = search needs
 
--- src/lib.rt:81:31
 cast-result-2 : tie.Need-cast-result-2
 cast-result-2 c = search needs
 
--- src/lib.rt:81:13
 shr-result-2 : tie.Need-shr-result-2
 shr-result-2 c = search needs
 
--- src/lib.rt:66:1
 returns-3 : tie.Need-returns-3
 returns-3 c =
     let args = c .before .before .before .before .args in
     rw (c .before .before .enum-told .given .1) (unused-part one (args .s .now) (args .at) (args .n) (c .before .if1 .left))
 
--- src/lib.rt:66:1
 returns-4 : tie.Need-returns-4
 returns-4 c =
     let args = c .before .before .before .before .args in

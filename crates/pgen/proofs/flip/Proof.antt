@@ -1,3 +1,5 @@
+-- `pgen::flip` meets its contract.
+-- Assumes nothing.
 use Rattle.pgen.proofs.FlipLaws.{flip-header-refused, few, wrong-set, short-work, bits-past, has-row, flip-records-refused, whole-accepted, flipped-call}
 use Rattle.format.specs.Reply.{flip-left}
 use Rattle.format.specs.declared.Reply.the-variants.{Accepted}
@@ -11,131 +13,98 @@ use denote.Ref.{now}
 use borrow.Author.Needs.{needs}
 use Rattle.pgen.proofs.flip.Statement.{statement}
 use Rattle.pgen.proofs.flip.Tie as tie
-use Rattle.pgen.proofs.flip.Reads as reads
-use Rattle.pgen.proofs.flip.Lts as lts
-use Rattle.flipfile.proofs.flip_accepted.Reads as flip-accepted-reads
-use Rattle.header.proofs.check.Reads as check-reads
-use Rattle.pgen.proofs.past_last.Reads as past-last-reads
-use Rattle.pgen.proofs.refused.Reads as refused-reads
-use Rattle.reader.proofs.check_records.Reads as check-records-reads
 
--- src/lib.rt:204:9
 check-requires : tie.Need-check-requires
 check-requires c κs = search needs
 
--- src/lib.rt:206:32
 enum-known-found : tie.Need-enum-known-found
 enum-known-found c = search needs
 
--- src/lib.rt:209:13
 enum-known-found-2 : tie.Need-enum-known-found-2
 enum-known-found-2 c = search needs
 
--- src/lib.rt:213:30
 add-if1 : tie.Need-add-if1
 add-if1 c =
     let a = c .before .before .before .before .before .before .before .before .args in
     omega (arith, few (now (a .file)) (now (a .set)) (now (a .work)) (all-bytes (now (a .file)) (λ i. (c .before .before .before .before .before .before .before .slice-known .given) i .fits)) ((c .before .before .before .check .result)) ((c .before .before .before .check .ensures)) ((c .before .found2 .given .0 .0)) ((c .before .found2 .given .0 .1 .0)) ((c .before .found2 .given .0 .1 .1 .0)) ((c .before .found2 .given .0 .1 .1 .1 .0)) ((c .before .found2 .given .1)))
 
--- src/lib.rt:214:17
 refused-requires : tie.Need-refused-requires
 refused-requires c κs = search needs
 
--- src/lib.rt:214:17
 same-length : tie.Need-same-length
 same-length c = search needs
 
--- src/lib.rt:214:17
 returns : tie.Need-returns
 returns c =
     let a = c .before .before .before .before .before .before .before .before .before .before .args in
     ap (λ (z : Reply). flip-left z (now (a .file)) (now (a .work))) ((c .refused .ensures)) ∙ wrong-set (now (a .file)) (now (a .set)) (now (a .work)) (all-bytes (now (a .file)) (λ i. (c .before .before .before .before .before .before .before .before .before .slice-known .given) i .fits)) ((c .before .before .before .before .before .check .result)) ((c .before .before .before .before .before .check .ensures)) ((c .before .before .before .found2 .given .0 .0)) ((c .before .before .before .found2 .given .0 .1 .0)) ((c .before .before .before .found2 .given .0 .1 .1 .0)) ((c .before .before .before .found2 .given .0 .1 .1 .1 .0)) ((c .before .before .before .found2 .given .1)) ((c .before .if1 .taken))
 
--- src/lib.rt:217:17
 refused-requires-2 : tie.Need-refused-requires-2
 refused-requires-2 c κs = search needs
 
--- src/lib.rt:217:17
 same-length-2 : tie.Need-same-length-2
 same-length-2 c = search needs
 
--- src/lib.rt:217:17
 returns-2 : tie.Need-returns-2
 returns-2 c =
     let a = c .before .before .before .before .before .before .before .before .before .before .before .args in
     ap (λ (z : Reply). flip-left z (now (a .file)) (now (a .work))) ((c .refused2 .ensures)) ∙ short-work (now (a .file)) (now (a .set)) (now (a .work)) (all-bytes (now (a .file)) (λ i. (c .before .before .before .before .before .before .before .before .before .before .slice-known .given) i .fits)) ((c .before .before .before .before .before .before .check .result)) ((c .before .before .before .before .before .before .check .ensures)) ((c .before .before .before .before .found2 .given .0 .0)) ((c .before .before .before .before .found2 .given .0 .1 .0)) ((c .before .before .before .before .found2 .given .0 .1 .1 .0)) ((c .before .before .before .before .found2 .given .0 .1 .1 .1 .0)) ((c .before .before .before .before .found2 .given .1)) ((c .before .before .if1 .left)) ((c .before .if2 .taken))
 
--- src/lib.rt:219:16
 past-last-requires : tie.Need-past-last-requires
 past-last-requires c κs = search needs
 
--- src/lib.rt:220:17
 refused-requires-3 : tie.Need-refused-requires-3
 refused-requires-3 c κs = search needs
 
--- src/lib.rt:220:17
 same-length-3 : tie.Need-same-length-3
 same-length-3 c = search needs
 
--- src/lib.rt:220:17
 returns-3 : tie.Need-returns-3
 returns-3 c =
     let a = c .before .before .before .before .before .before .before .before .before .before .before .before .before .args in
     ap (λ (z : Reply). flip-left z (now (a .file)) (now (a .work))) ((c .refused3 .ensures)) ∙ bits-past (now (a .file)) (now (a .set)) (now (a .work)) (all-bytes (now (a .file)) (λ i. (c .before .before .before .before .before .before .before .before .before .before .before .before .slice-known .given) i .fits)) ((c .before .before .before .before .before .before .before .before .check .result)) ((c .before .before .before .before .before .before .before .before .check .ensures)) ((c .before .before .before .before .before .before .found2 .given .0 .0)) ((c .before .before .before .before .before .before .found2 .given .0 .1 .0)) ((c .before .before .before .before .before .before .found2 .given .0 .1 .1 .0)) ((c .before .before .before .before .before .before .found2 .given .0 .1 .1 .1 .0)) ((c .before .before .before .before .before .before .found2 .given .1)) ((c .before .before .before .before .if1 .left)) (omega (arith, (c .before .before .before .if2 .left))) (λ z. (c .before .if3 .taken) ((c .before .before .past-last .ensures) ∙ z))
 
--- src/lib.rt:222:17
 check-records-requires : tie.Need-check-records-requires
 check-records-requires c κs =
     let a = c .before .before .before .before .before .before .before .before .before .before .before .before .before .before .args in
     has-row (now (a .file)) (now (a .set)) (now (a .work)) (all-bytes (now (a .file)) (λ i. (c .before .before .before .before .before .before .before .before .before .before .before .before .before .slice-known .given) i .fits)) ((c .before .before .before .before .before .before .before .before .before .check .result)) ((c .before .before .before .before .before .before .before .before .before .check .ensures)) ((c .before .before .before .before .before .before .before .found2 .given .0 .0)) ((c .before .before .before .before .before .before .before .found2 .given .0 .1 .0)) ((c .before .before .before .before .before .before .before .found2 .given .0 .1 .1 .0)) ((c .before .before .before .before .before .before .before .found2 .given .0 .1 .1 .1 .0)) ((c .before .before .before .before .before .before .before .found2 .given .1)) ((c .before .before .before .before .before .if1 .left)) (omega (arith, (c .before .before .before .before .if2 .left)))
 
--- src/lib.rt:224:40
 enum-known-got : tie.Need-enum-known-got
 enum-known-got c = search needs
 
--- src/lib.rt:226:35
 enum-told : tie.Need-enum-told
 enum-told c = search needs
 
--- src/lib.rt:226:21
 flip-accepted-requires : tie.Need-flip-accepted-requires
 flip-accepted-requires c κs =
     let a = c .before .before .before .before .before .before .before .before .before .before .before .before .before .before .before .before .before .before .before .before .args in
     whole-accepted (now (a .file)) (now (a .set)) (now (a .work)) (all-bytes (now (a .file)) (λ i. (c .before .before .before .before .before .before .before .before .before .before .before .before .before .before .before .before .before .before .before .slice-known .given) i .fits)) ((c .before .before .before .before .before .before .before .before .before .before .before .before .before .before .before .check .result)) ((c .before .before .before .before .before .before .before .before .before .before .before .before .before .before .before .check .ensures)) ((c .before .before .before .before .before .before .before .before .before .before .before .before .before .found2 .given .0 .0)) ((c .before .before .before .before .before .before .before .before .before .before .before .before .before .found2 .given .0 .1 .0)) ((c .before .before .before .before .before .before .before .before .before .before .before .before .before .found2 .given .0 .1 .1 .0)) ((c .before .before .before .before .before .before .before .before .before .before .before .before .before .found2 .given .0 .1 .1 .1 .0)) ((c .before .before .before .before .before .before .before .before .before .before .before .before .before .found2 .given .1)) ((c .before .before .before .before .before .before .before .before .before .before .before .if1 .left)) (omega (arith, (c .before .before .before .before .before .before .before .before .before .before .if2 .left))) (sym ((c .before .before .before .before .before .before .before .before .before .past-last .ensures)) ∙ (c .before .before .before .before .before .before .before .before .if3 .left)) ((c .before .before .before .before .before .check-records .result)) ((c .before .before .before .before .before .check-records .last .1 .0)) ((c .before .before .before .before .before .check-records .ensures)) ((c .before .enum-told .given .1))
 
--- src/lib.rt:201:1
 same-length-4 : tie.Need-same-length-4
 same-length-4 c = search needs
 
--- src/lib.rt:201:1
 returns-4 : tie.Need-returns-4
 returns-4 c =
     let a = c .before .before .before .before .before .before .before .before .args in
     flip-header-refused (now (a .file)) (now (a .set)) (now (a .work)) (all-bytes (now (a .file)) (λ i. (c .before .before .before .before .before .before .before .slice-known .given) i .fits)) ((c .before .before .before .check .result)) ((c .before .before .before .check .ensures)) ((c .before .found .given .0 .0)) ((c .before .found .given .0 .1 .0)) ((c .before .found .given .1))
 
--- src/lib.rt:201:1
 same-length-5 : tie.Need-same-length-5
 same-length-5 c = search needs
 
--- src/lib.rt:201:1
 same-length-6 : tie.Need-same-length-6
 same-length-6 c = search needs
 
--- src/lib.rt:201:1
 returns-5 : tie.Need-returns-5
 returns-5 c =
     let a = c .before .before .before .before .before .before .before .before .before .before .before .before .before .before .before .before .before .before .before .before .args in
     flip-records-refused (now (a .file)) (now (a .set)) (now (a .work)) (all-bytes (now (a .file)) (λ i. (c .before .before .before .before .before .before .before .before .before .before .before .before .before .before .before .before .before .before .before .slice-known .given) i .fits)) ((c .before .before .before .before .before .before .before .before .before .before .before .before .before .before .before .check .result)) ((c .before .before .before .before .before .before .before .before .before .before .before .before .before .before .before .check .ensures)) ((c .before .before .before .before .before .before .before .before .before .before .before .before .before .found2 .given .0 .0)) ((c .before .before .before .before .before .before .before .before .before .before .before .before .before .found2 .given .0 .1 .0)) ((c .before .before .before .before .before .before .before .before .before .before .before .before .before .found2 .given .0 .1 .1 .0)) ((c .before .before .before .before .before .before .before .before .before .before .before .before .before .found2 .given .0 .1 .1 .1 .0)) ((c .before .before .before .before .before .before .before .before .before .before .before .before .before .found2 .given .1)) ((c .before .before .before .before .before .before .before .before .before .before .before .if1 .left)) (omega (arith, (c .before .before .before .before .before .before .before .before .before .before .if2 .left))) (sym ((c .before .before .before .before .before .before .before .before .before .past-last .ensures)) ∙ (c .before .before .before .before .before .before .before .before .if3 .left)) ((c .before .before .before .before .before .check-records .result)) ((c .before .before .before .before .before .check-records .last .1 .0)) ((c .before .before .before .before .before .check-records .ensures)) ((c .before .got .given .0 .0)) ((c .before .got .given .0 .1 .0)) ((c .before .got .given .1))
 
--- src/lib.rt:201:1
 same-length-7 : tie.Need-same-length-7
 same-length-7 c = search needs
 
--- src/lib.rt:201:1
 same-length-8 : tie.Need-same-length-8
 same-length-8 c = search needs
 
--- src/lib.rt:201:1
 returns-6 : tie.Need-returns-6
 returns-6 c =
     let a = c .before .before .before .before .before .before .before .before .before .before .before .before .before .before .before .before .before .before .before .before .before .before .before .args in

@@ -1,3 +1,5 @@
+-- `pgen::lookup` meets its contract.
+-- Assumes nothing.
 use Rattle.pgen.proofs.ReadLaws.{lookup-header-refused, lookup-short-work, lookup-no-variant, lookup-no-sample, has-variant-row, lookup-refused, lookup-accepted}
 use Rattle.format.specs.Reply.{lookup-left}
 use Rattle.format.specs.declared.LookupReply.the-variants.{Category}
@@ -12,98 +14,73 @@ use denote.Ref.{now}
 use borrow.Author.Needs.{needs}
 use Rattle.pgen.proofs.lookup.Statement.{statement}
 use Rattle.pgen.proofs.lookup.Tie as tie
-use Rattle.pgen.proofs.lookup.Reads as reads
-use Rattle.pgen.proofs.lookup.Lts as lts
-use Rattle.header.proofs.check.Reads as check-reads
-use Rattle.packed.proofs.clear.Reads as clear-reads
-use Rattle.pgen.proofs.no_category.Reads as no-category-reads
-use Rattle.reader.proofs.read_row.Reads as read-row-reads
 
--- src/lib.rt:113:9
 check-requires : tie.Need-check-requires
 check-requires c κs = search needs
 
--- src/lib.rt:115:32
 enum-known-found : tie.Need-enum-known-found
 enum-known-found c = search needs
 
--- src/lib.rt:118:13
 enum-known-found-2 : tie.Need-enum-known-found-2
 enum-known-found-2 c = search needs
 
--- src/lib.rt:123:17
 no-category-requires : tie.Need-no-category-requires
 no-category-requires c κs = search needs
 
--- src/lib.rt:123:17
 returns : tie.Need-returns
 returns c =
     let a = c .before .before .before .before .before .before .before .before .args in
     ap (λ (z : LookupReply). lookup-left z (now (a .work))) ((c .no-category .ensures)) ∙ lookup-short-work (now (a .file)) (a .variant) (now (a .work)) (all-bytes (now (a .file)) (λ i. (c .before .before .before .before .before .before .before .shared-slice-known .given) i .fits)) ((c .before .before .before .before .before .check .result)) ((c .before .before .before .before .before .check .ensures)) ((c .before .before .before .found2 .given .0 .0)) ((c .before .before .before .found2 .given .0 .1 .0)) ((c .before .before .before .found2 .given .0 .1 .1 .0)) ((c .before .before .before .found2 .given .0 .1 .1 .1 .0)) ((c .before .before .before .found2 .given .1)) (a .sample) ((c .before .if1 .taken))
 
--- src/lib.rt:126:17
 no-category-requires-2 : tie.Need-no-category-requires-2
 no-category-requires-2 c κs = search needs
 
--- src/lib.rt:126:17
 returns-2 : tie.Need-returns-2
 returns-2 c =
     let a = c .before .before .before .before .before .before .before .before .before .before .args in
     ap (λ (z : LookupReply). lookup-left z (now (a .work))) ((c .no-category2 .ensures)) ∙ lookup-no-variant (now (a .file)) (a .variant) (now (a .work)) (all-bytes (now (a .file)) (λ i. (c .before .before .before .before .before .before .before .before .before .shared-slice-known .given) i .fits)) ((c .before .before .before .before .before .before .before .check .result)) ((c .before .before .before .before .before .before .before .check .ensures)) ((c .before .before .before .before .before .found2 .given .0 .0)) ((c .before .before .before .before .before .found2 .given .0 .1 .0)) ((c .before .before .before .before .before .found2 .given .0 .1 .1 .0)) ((c .before .before .before .before .before .found2 .given .0 .1 .1 .1 .0)) ((c .before .before .before .before .before .found2 .given .1)) (omega (arith, (c .before .before .before .if1 .left))) (a .sample) ((c .before .if2 .taken))
 
--- src/lib.rt:129:17
 no-category-requires-3 : tie.Need-no-category-requires-3
 no-category-requires-3 c κs = search needs
 
--- src/lib.rt:129:17
 returns-3 : tie.Need-returns-3
 returns-3 c =
     let a = c .before .before .before .before .before .before .before .before .before .before .before .args in
     ap (λ (z : LookupReply). lookup-left z (now (a .work))) ((c .no-category3 .ensures)) ∙ lookup-no-sample (now (a .file)) (a .variant) (now (a .work)) (all-bytes (now (a .file)) (λ i. (c .before .before .before .before .before .before .before .before .before .before .shared-slice-known .given) i .fits)) ((c .before .before .before .before .before .before .before .before .check .result)) ((c .before .before .before .before .before .before .before .before .check .ensures)) ((c .before .before .before .before .before .before .found2 .given .0 .0)) ((c .before .before .before .before .before .before .found2 .given .0 .1 .0)) ((c .before .before .before .before .before .before .found2 .given .0 .1 .1 .0)) ((c .before .before .before .before .before .before .found2 .given .0 .1 .1 .1 .0)) ((c .before .before .before .before .before .before .found2 .given .1)) (omega (arith, (c .before .before .before .before .if1 .left))) (omega (arith, (c .before .before .if2 .left))) (a .sample) ((c .before .if3 .taken))
 
--- src/lib.rt:131:17
 read-row-requires : tie.Need-read-row-requires
 read-row-requires c κs =
     let a = c .before .before .before .before .before .before .before .before .before .before .before .args in
     has-variant-row (now (a .file)) (a .variant) (now (a .work)) (all-bytes (now (a .file)) (λ i. (c .before .before .before .before .before .before .before .before .before .before .shared-slice-known .given) i .fits)) ((c .before .before .before .before .before .before .before .before .check .result)) ((c .before .before .before .before .before .before .before .before .check .ensures)) ((c .before .before .before .before .before .before .found2 .given .0 .0)) ((c .before .before .before .before .before .before .found2 .given .0 .1 .0)) ((c .before .before .before .before .before .before .found2 .given .0 .1 .1 .0)) ((c .before .before .before .before .before .before .found2 .given .0 .1 .1 .1 .0)) ((c .before .before .before .before .before .before .found2 .given .1)) (omega (arith, (c .before .before .before .before .if1 .left))) (omega (arith, (c .before .before .if2 .left)))
 
--- src/lib.rt:133:40
 enum-known-got : tie.Need-enum-known-got
 enum-known-got c = search needs
 
--- src/lib.rt:135:36
 enum-told : tie.Need-enum-told
 enum-told c = search needs
 
--- src/lib.rt:135:36
 slice-read-category : tie.Need-slice-read-category
 slice-read-category c = search needs
 
--- src/lib.rt:136:21
 clear-requires : tie.Need-clear-requires
 clear-requires c κs = search needs
 
--- src/lib.rt:110:1
 returns-4 : tie.Need-returns-4
 returns-4 c =
     let a = c .before .before .before .before .before .before .args in
     lookup-header-refused (now (a .file)) (a .variant) (now (a .work)) (all-bytes (now (a .file)) (λ i. (c .before .before .before .before .before .shared-slice-known .given) i .fits)) ((c .before .before .before .check .result)) ((c .before .before .before .check .ensures)) (a .sample) ((c .before .found .given .0 .0)) ((c .before .found .given .0 .1 .0)) ((c .before .found .given .1))
 
--- src/lib.rt:110:1
 same-length : tie.Need-same-length
 same-length c = search needs
 
--- src/lib.rt:110:1
 returns-5 : tie.Need-returns-5
 returns-5 c =
     let a = c .before .before .before .before .before .before .before .before .before .before .before .before .before .before .before .before .before .args in
     lookup-refused (now (a .file)) (a .variant) (now (a .work)) (all-bytes (now (a .file)) (λ i. (c .before .before .before .before .before .before .before .before .before .before .before .before .before .before .before .before .shared-slice-known .given) i .fits)) ((c .before .before .before .before .before .before .before .before .before .before .before .before .before .before .check .result)) ((c .before .before .before .before .before .before .before .before .before .before .before .before .before .before .check .ensures)) ((c .before .before .before .before .before .before .before .before .before .before .before .before .found2 .given .0 .0)) ((c .before .before .before .before .before .before .before .before .before .before .before .before .found2 .given .0 .1 .0)) ((c .before .before .before .before .before .before .before .before .before .before .before .before .found2 .given .0 .1 .1 .0)) ((c .before .before .before .before .before .before .before .before .before .before .before .before .found2 .given .0 .1 .1 .1 .0)) ((c .before .before .before .before .before .before .before .before .before .before .before .before .found2 .given .1)) (omega (arith, (c .before .before .before .before .before .before .before .before .before .before .if1 .left))) (omega (arith, (c .before .before .before .before .before .before .before .before .if2 .left))) ((c .before .before .before .before .before .read-row .result)) ((c .before .before .before .before .before .read-row .last .1 .1 .1 .0)) (search needs) ((c .before .before .before .before .before .read-row .ensures)) (a .sample) (omega (arith, (c .before .before .before .before .before .before .before .if3 .left))) ((c .before .got .given .0 .0)) ((c .before .got .given .0 .1 .0)) ((c .before .got .given .1))
 
--- src/lib.rt:110:1
 same-length-2 : tie.Need-same-length-2
 same-length-2 c = search needs
 
--- src/lib.rt:110:1
 returns-6 : tie.Need-returns-6
 returns-6 c =
     let a = c .before .before .before .before .before .before .before .before .before .before .before .before .before .before .before .before .before .before .before .before .before .args in

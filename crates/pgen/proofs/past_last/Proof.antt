@@ -1,25 +1,20 @@
+-- `pgen::past_last` meets its contract.
+-- Assumes nothing.
 use mathlib.Core.Path.{ap}
 use Prim.Native.Nat.{ℕ, _/_, _%_, _^_}
 use borrow.Author.Needs.{needs}
 use Rattle.pgen.proofs.past_last.Statement.{statement}
 use Rattle.pgen.proofs.past_last.Tie as tie
-use Rattle.pgen.proofs.past_last.Reads as reads
-use Rattle.pgen.proofs.past_last.Lts as lts
-use Rattle.flipheader.proofs.byte_at.Reads as byte-at-reads
 
--- src/lib.rt:197:5
 byte-at-requires : tie.Need-byte-at-requires
 byte-at-requires c κs = search needs
 
--- src/lib.rt:197:29
 cast-result : tie.Need-cast-result
 cast-result c = search needs
 
--- src/lib.rt:197:5
 shr-result : tie.Need-shr-result
 shr-result c = search needs
 
--- src/lib.rt:194:1
 returns : tie.Need-returns
 returns c = ap (λ (x : ℕ). x / 2 ^ (c .before .before .args .m % 8)) (c .byte-at .ensures)
 

@@ -1,86 +1,68 @@
+-- `probe::run_on` meets its contract.
+-- Assumes nothing.
 use mathlib.Core.Path.{sym}
 use lib.Seq.{length-take-le}
 use native.Mathlib.Omega.{arith}
 use borrow.Author.Needs.{needs}
 use Rattle.probe.proofs.run_on.Statement.{statement}
 use Rattle.probe.proofs.run_on.Tie as tie
-use Rattle.probe.proofs.run_on.Reads as reads
-use Rattle.probe.proofs.run_on.Lts as lts
-use Rattle.probe.proofs.answers.run.Reads as run-reads
 
--- src/main.rt:70:9
 returns : tie.Need-returns
 returns c = search needs
 
--- src/main.rt:73:9
 returns-2 : tie.Need-returns-2
 returns-2 c = search needs
 
--- src/main.rt:76:9
 returns-3 : tie.Need-returns-3
 returns-3 c = search needs
 
--- src/main.rt:79:9
 returns-4 : tie.Need-returns-4
 returns-4 c = search needs
 
--- src/main.rt:83:9
 slice-relend-prefix-run : tie.Need-slice-relend-prefix-run
 slice-relend-prefix-run c = search needs
 
--- src/main.rt:83:9
 slice-aggregate-run : tie.Need-slice-aggregate-run
 slice-aggregate-run c =
     let a = c .before .before .before .before .before .before .before .before .before .before .args in
     sym (length-take-le (a .c .first) (a .first .now) (omega arith))
 
--- src/main.rt:84:9
 slice-aggregate-run-2 : tie.Need-slice-aggregate-run-2
 slice-aggregate-run-2 c =
     let a = c .before .before .before .before .before .before .before .before .before .before .before .args in
     sym (length-take-le (a .c .second) (a .second .now) (omega arith))
 
--- src/main.rt:85:9
 slice-relend-prefix-run-2 : tie.Need-slice-relend-prefix-run-2
 slice-relend-prefix-run-2 c = search needs
 
--- src/main.rt:85:9
 slice-aggregate-run-3 : tie.Need-slice-aggregate-run-3
 slice-aggregate-run-3 c =
     let a = c .before .before .before .before .before .before .before .before .before .before .before .before .args in
     sym (length-take-le (a .c .output) (a .output .now) (omega arith))
 
--- src/main.rt:86:9
 slice-relend-prefix-run-3 : tie.Need-slice-relend-prefix-run-3
 slice-relend-prefix-run-3 c = search needs
 
--- src/main.rt:86:9
 slice-aggregate-run-4 : tie.Need-slice-aggregate-run-4
 slice-aggregate-run-4 c =
     let a = c .before .before .before .before .before .before .before .before .before .before .before .before .before .args in
     sym (length-take-le (a .c .work) (a .work .now) (omega arith))
 
--- src/main.rt:81:5
 run-requires : tie.Need-run-requires
 run-requires c κs = search needs
 
--- src/main.rt:56:1
 same-length : tie.Need-same-length
 same-length c = search needs
 
--- src/main.rt:56:1
 same-length-2 : tie.Need-same-length-2
 same-length-2 c = search needs
 
--- src/main.rt:56:1
 same-length-3 : tie.Need-same-length-3
 same-length-3 c = search needs
 
--- src/main.rt:56:1
 same-length-4 : tie.Need-same-length-4
 same-length-4 c = search needs
 
--- src/main.rt:56:1
 returns-5 : tie.Need-returns-5
 returns-5 c = search needs
 

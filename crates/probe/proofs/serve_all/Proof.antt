@@ -1,12 +1,10 @@
+-- `probe::serve_all` meets its contract.
+-- Assumes nothing.
 use mathlib.Core.Path.{_≡_}
 use lib.ListN.{length}
 use borrow.Author.Needs.{needs}
 use Rattle.probe.proofs.serve_all.Statement.{statement}
 use Rattle.probe.proofs.serve_all.Tie as tie
-use Rattle.probe.proofs.serve_all.Reads as reads
-use Rattle.probe.proofs.serve_all.Lts as lts
-use Rattle.probe.proofs.step.Reads as step-reads
-use Rattle.text.proofs.flush.Reads as flush-reads
 
 abbrev Inv-loop : tie.InvT-loop
 Inv-loop head₀ first₀ second₀ output₀ work₀ out₀ at₀ left₀ head first second output work out at left =
@@ -15,63 +13,48 @@ Inv-loop head₀ first₀ second₀ output₀ work₀ out₀ at₀ left₀ head 
 abbrev μ-loop : tie.MeasureT-loop
 μ-loop head₀ first₀ second₀ output₀ work₀ out₀ at₀ left₀ head first second output work out at left = left
 
--- src/main.rt:154:5
 loop-holds : tie.Need-loop-holds Inv-loop μ-loop
 loop-holds c = search needs
 
--- src/main.rt:155:16
 sub-left : tie.Need-sub-left Inv-loop μ-loop
 sub-left c = search needs
 
--- src/main.rt:156:13
 step-requires : tie.Need-step-requires Inv-loop μ-loop
 step-requires c κs = search needs
 
--- src/main.rt:154:5
 loop-less : tie.Need-loop-less Inv-loop μ-loop
 loop-less c = search needs
 
--- src/main.rt:154:5
 loop-again : tie.Need-loop-again Inv-loop μ-loop
 loop-again c = search needs
 
--- src/main.rt:154:5
 loop-less-2 : tie.Need-loop-less-2 Inv-loop μ-loop
 loop-less-2 c = search needs
 
--- src/main.rt:154:5
 loop-again-2 : tie.Need-loop-again-2 Inv-loop μ-loop
 loop-again-2 c = search needs
 
--- src/main.rt:162:5
 flush-requires : tie.Need-flush-requires Inv-loop μ-loop
 flush-requires c κs = search needs
 
--- src/main.rt:144:1
 same-length : tie.Need-same-length Inv-loop μ-loop
 same-length c = search needs
 
--- src/main.rt:144:1
 same-length-2 : tie.Need-same-length-2 Inv-loop μ-loop
 same-length-2 c = search needs
 
--- src/main.rt:144:1
 same-length-3 : tie.Need-same-length-3 Inv-loop μ-loop
 same-length-3 c = search needs
 
--- src/main.rt:144:1
 same-length-4 : tie.Need-same-length-4 Inv-loop μ-loop
 same-length-4 c = search needs
 
--- src/main.rt:144:1
 same-length-5 : tie.Need-same-length-5 Inv-loop μ-loop
 same-length-5 c = search needs
 
--- src/main.rt:144:1
 same-length-6 : tie.Need-same-length-6 Inv-loop μ-loop
 same-length-6 c = search needs
 
--- src/main.rt:144:1
 returns : tie.Need-returns Inv-loop μ-loop
 returns c = search needs
 

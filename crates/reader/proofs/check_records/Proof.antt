@@ -1,3 +1,5 @@
+-- `reader::check_records` meets its contract.
+-- Assumes nothing.
 use mathlib.Core.Path.{refl, sym, ap, _∙_}
 use mathlib.Core.Bool.{true}
 use mathlib.Core.List.{_++_}
@@ -25,13 +27,6 @@ use Rattle.format.specs.Header.{read-layout}
 use Rattle.reader.proofs.WalkLaws.{Walk}
 use Rattle.reader.proofs.check_records.Statement.{statement}
 use Rattle.reader.proofs.check_records.Tie as tie
-use Rattle.reader.proofs.check_records.Reads as reads
-use Rattle.reader.proofs.check_records.Lts as lts
-use Rattle.blocks.proofs.fields_at.Reads as fields-at-reads
-use Rattle.blocks.proofs.header_end.Reads as header-end-reads
-use Rattle.packed.proofs.clear.Reads as clear-reads
-use Rattle.places.proofs.extent_of.Reads as extent-of-reads
-use Rattle.record.proofs.read_body.Reads as read-body-reads
 
 abbrev Inv-loop : tie.InvT-loop
 Inv-loop file row₀ f m n start₀ v₀ row start v = ((l : Layout) → read-layout 65536 file ≡ ok l [] → Walk l row₀ row v start) × (length row ≡ length row₀)
@@ -39,71 +34,54 @@ Inv-loop file row₀ f m n start₀ v₀ row start v = ((l : Layout) → read-la
 abbrev μ-loop : tie.MeasureT-loop
 μ-loop file row₀ f m n start₀ v₀ row start v = m - v
 
--- src/lib.rt:25:9
 fields-at-requires : tie.Need-fields-at-requires Inv-loop μ-loop
 fields-at-requires c κs = long (now (c .before .before .args .file)) (c .before .before .pre .layout) (c .before .before .pre .accepted)
 
--- src/lib.rt:28:9
 header-end-requires : tie.Need-header-end-requires Inv-loop μ-loop
 header-end-requires c κs = few-variants (now (c .before .before .before .args .file)) (all-bytes (now (c .before .before .before .args .file)) (λ i. c .before .before .shared-slice-known .given i .fits)) (c .before .before .before .pre .layout) (c .before .before .before .pre .accepted) (c .fields-at .result) (c .fields-at .ensures)
 
--- src/lib.rt:30:5
 loop-holds : tie.Need-loop-holds Inv-loop μ-loop
 loop-holds c = (λ l q. starts (now (c .before .before .before .before .args .file)) (all-bytes (now (c .before .before .before .before .args .file)) (λ i. c .before .before .before .shared-slice-known .given i .fits)) l q (now (c .before .before .before .before .args .row)) (c .header-end .result) (c .header-end .ensures .0 ∙ ap (header-end 65536) (fields-are (now (c .before .before .before .before .args .file)) (all-bytes (now (c .before .before .before .before .args .file)) (λ i. c .before .before .before .shared-slice-known .given i .fits)) l q (c .before .fields-at .result) (c .before .fields-at .ensures))), refl)
 
--- src/lib.rt:31:13
 extent-of-requires : tie.Need-extent-of-requires Inv-loop μ-loop
 extent-of-requires c κs = (has (now (c .before .before .before .before .before .before .args .file)) (all-bytes (now (c .before .before .before .before .before .before .args .file)) (λ i. c .before .before .before .before .before .shared-slice-known .given i .fits)) (c .before .before .before .before .before .before .pre .layout) (c .before .before .before .before .before .before .pre .accepted) (file-variant (c .before .loop .v)) (omega (arith, count-is (now (c .before .before .before .before .before .before .args .file)) (all-bytes (now (c .before .before .before .before .before .before .args .file)) (λ i. c .before .before .before .before .before .shared-slice-known .given i .fits)) (c .before .before .before .before .before .before .pre .layout) (c .before .before .before .before .before .before .pre .accepted) (c .before .before .before .fields-at .result) (c .before .before .before .fields-at .ensures), c .loop-test .taken)), (c .before .before .before .fields-at .ensures))
 
--- src/lib.rt:32:19
 add-end : tie.Need-add-end Inv-loop μ-loop
 add-end c = omega (arith, inside (now (c .before .before .before .before .before .before .before .before .args .file)) (all-bytes (now (c .before .before .before .before .before .before .before .before .args .file)) (λ i. c .before .before .before .before .before .before .before .shared-slice-known .given i .fits)) (c .before .before .before .before .before .before .before .before .pre .layout) (c .before .before .before .before .before .before .before .before .pre .accepted) (file-variant (c .before .before .before .loop .v)) (omega (arith, count-is (now (c .before .before .before .before .before .before .before .before .args .file)) (all-bytes (now (c .before .before .before .before .before .before .before .before .args .file)) (λ i. c .before .before .before .before .before .before .before .shared-slice-known .given i .fits)) (c .before .before .before .before .before .before .before .before .pre .layout) (c .before .before .before .before .before .before .before .before .pre .accepted) (c .before .before .before .before .before .fields-at .result) (c .before .before .before .before .before .fields-at .ensures), c .before .before .loop-test .taken)) (c .before .before .before .loop .start) (c .before .before .before .loop .start + (c .before .extent-of .result) .size) ((c .before .extent-of .result) .kind) (its-place (now (c .before .before .before .before .before .before .before .before .args .file)) (all-bytes (now (c .before .before .before .before .before .before .before .before .args .file)) (λ i. c .before .before .before .before .before .before .before .shared-slice-known .given i .fits)) (c .before .before .before .before .before .before .before .before .pre .layout) (c .before .before .before .before .before .before .before .before .pre .accepted) (now (c .before .before .before .before .before .before .before .before .args .row)) (c .before .before .before .loop .row) (c .before .before .before .loop .v) (c .before .before .before .loop .start) (c .before .before .before .loop .inv .0 (c .before .before .before .before .before .before .before .before .pre .layout) (c .before .before .before .before .before .before .before .before .pre .accepted)) (omega (arith, count-is (now (c .before .before .before .before .before .before .before .before .args .file)) (all-bytes (now (c .before .before .before .before .before .before .before .before .args .file)) (λ i. c .before .before .before .before .before .before .before .shared-slice-known .given i .fits)) (c .before .before .before .before .before .before .before .before .pre .layout) (c .before .before .before .before .before .before .before .before .pre .accepted) (c .before .before .before .before .before .fields-at .result) (c .before .before .before .before .before .fields-at .ensures), c .before .before .loop-test .taken)) (c .before .extent-of .result) (c .before .extent-of .ensures (c .before .before .before .before .before .before .before .before .pre .layout) (c .before .before .before .before .before .before .before .before .pre .accepted))))
 
--- src/lib.rt:33:29
 slice-aggregate-read-body : tie.Need-slice-aggregate-read-body Inv-loop μ-loop
 slice-aggregate-read-body c = sym (cut-end (now (c .before .before .before .before .before .before .before .before .before .args .file)) (all-bytes (now (c .before .before .before .before .before .before .before .before .before .args .file)) (λ i. c .before .before .before .before .before .before .before .before .shared-slice-known .given i .fits)) (c .before .before .before .before .before .before .before .before .before .pre .layout) (c .before .before .before .before .before .before .before .before .before .pre .accepted) (file-variant (c .before .before .before .before .loop .v)) (omega (arith, count-is (now (c .before .before .before .before .before .before .before .before .before .args .file)) (all-bytes (now (c .before .before .before .before .before .before .before .before .before .args .file)) (λ i. c .before .before .before .before .before .before .before .before .shared-slice-known .given i .fits)) (c .before .before .before .before .before .before .before .before .before .pre .layout) (c .before .before .before .before .before .before .before .before .before .pre .accepted) (c .before .before .before .before .before .before .fields-at .result) (c .before .before .before .before .before .before .fields-at .ensures), c .before .before .before .loop-test .taken)) (c .before .before .before .before .loop .start) (c .before .before .before .before .loop .start + (c .before .before .extent-of .result) .size) ((c .before .before .extent-of .result) .kind) (its-place (now (c .before .before .before .before .before .before .before .before .before .args .file)) (all-bytes (now (c .before .before .before .before .before .before .before .before .before .args .file)) (λ i. c .before .before .before .before .before .before .before .before .shared-slice-known .given i .fits)) (c .before .before .before .before .before .before .before .before .before .pre .layout) (c .before .before .before .before .before .before .before .before .before .pre .accepted) (now (c .before .before .before .before .before .before .before .before .before .args .row)) (c .before .before .before .before .loop .row) (c .before .before .before .before .loop .v) (c .before .before .before .before .loop .start) (c .before .before .before .before .loop .inv .0 (c .before .before .before .before .before .before .before .before .before .pre .layout) (c .before .before .before .before .before .before .before .before .before .pre .accepted)) (omega (arith, count-is (now (c .before .before .before .before .before .before .before .before .before .args .file)) (all-bytes (now (c .before .before .before .before .before .before .before .before .before .args .file)) (λ i. c .before .before .before .before .before .before .before .before .shared-slice-known .given i .fits)) (c .before .before .before .before .before .before .before .before .before .pre .layout) (c .before .before .before .before .before .before .before .before .before .pre .accepted) (c .before .before .before .before .before .before .fields-at .result) (c .before .before .before .before .before .before .fields-at .ensures), c .before .before .before .loop-test .taken)) (c .before .before .extent-of .result) (c .before .before .extent-of .ensures (c .before .before .before .before .before .before .before .before .before .pre .layout) (c .before .before .before .before .before .before .before .before .before .pre .accepted))))
 
--- src/lib.rt:33:13
 read-body-requires : tie.Need-read-body-requires Inv-loop μ-loop
 read-body-requires c κs = ((omega (arith, cut-end (now (c .before .before .before .before .before .before .before .before .before .before .args .file)) (all-bytes (now (c .before .before .before .before .before .before .before .before .before .before .args .file)) (λ i. c .before .before .before .before .before .before .before .before .before .shared-slice-known .given i .fits)) (c .before .before .before .before .before .before .before .before .before .before .pre .layout) (c .before .before .before .before .before .before .before .before .before .before .pre .accepted) (file-variant (c .before .before .before .before .before .loop .v)) (omega (arith, count-is (now (c .before .before .before .before .before .before .before .before .before .before .args .file)) (all-bytes (now (c .before .before .before .before .before .before .before .before .before .before .args .file)) (λ i. c .before .before .before .before .before .before .before .before .before .shared-slice-known .given i .fits)) (c .before .before .before .before .before .before .before .before .before .before .pre .layout) (c .before .before .before .before .before .before .before .before .before .before .pre .accepted) (c .before .before .before .before .before .before .before .fields-at .result) (c .before .before .before .before .before .before .before .fields-at .ensures), c .before .before .before .before .loop-test .taken)) (c .before .before .before .before .before .loop .start) (c .before .before .before .before .before .loop .start + (c .before .before .before .extent-of .result) .size) ((c .before .before .before .extent-of .result) .kind) (its-place (now (c .before .before .before .before .before .before .before .before .before .before .args .file)) (all-bytes (now (c .before .before .before .before .before .before .before .before .before .before .args .file)) (λ i. c .before .before .before .before .before .before .before .before .before .shared-slice-known .given i .fits)) (c .before .before .before .before .before .before .before .before .before .before .pre .layout) (c .before .before .before .before .before .before .before .before .before .before .pre .accepted) (now (c .before .before .before .before .before .before .before .before .before .before .args .row)) (c .before .before .before .before .before .loop .row) (c .before .before .before .before .before .loop .v) (c .before .before .before .before .before .loop .start) (c .before .before .before .before .before .loop .inv .0 (c .before .before .before .before .before .before .before .before .before .before .pre .layout) (c .before .before .before .before .before .before .before .before .before .before .pre .accepted)) (omega (arith, count-is (now (c .before .before .before .before .before .before .before .before .before .before .args .file)) (all-bytes (now (c .before .before .before .before .before .before .before .before .before .before .args .file)) (λ i. c .before .before .before .before .before .before .before .before .before .shared-slice-known .given i .fits)) (c .before .before .before .before .before .before .before .before .before .before .pre .layout) (c .before .before .before .before .before .before .before .before .before .before .pre .accepted) (c .before .before .before .before .before .before .before .fields-at .result) (c .before .before .before .before .before .before .before .fields-at .ensures), c .before .before .before .before .loop-test .taken)) (c .before .before .before .extent-of .result) (c .before .before .before .extent-of .ensures (c .before .before .before .before .before .before .before .before .before .before .pre .layout) (c .before .before .before .before .before .before .before .before .before .before .pre .accepted)))), omega (arith, few-samples (now (c .before .before .before .before .before .before .before .before .before .before .args .file)) (all-bytes (now (c .before .before .before .before .before .before .before .before .before .before .args .file)) (λ i. c .before .before .before .before .before .before .before .before .before .shared-slice-known .given i .fits)) (c .before .before .before .before .before .before .before .before .before .before .pre .layout) (c .before .before .before .before .before .before .before .before .before .before .pre .accepted), samples-are (now (c .before .before .before .before .before .before .before .before .before .before .args .file)) (all-bytes (now (c .before .before .before .before .before .before .before .before .before .before .args .file)) (λ i. c .before .before .before .before .before .before .before .before .before .shared-slice-known .given i .fits)) (c .before .before .before .before .before .before .before .before .before .before .pre .layout) (c .before .before .before .before .before .before .before .before .before .before .pre .accepted) (c .before .before .before .before .before .before .before .fields-at .result) (c .before .before .before .before .before .before .before .fields-at .ensures)), omega (arith, c .before .before .before .before .before .loop .inv .1, c .before .before .before .before .before .before .before .before .before .before .pre .room, samples-are (now (c .before .before .before .before .before .before .before .before .before .before .args .file)) (all-bytes (now (c .before .before .before .before .before .before .before .before .before .before .args .file)) (λ i. c .before .before .before .before .before .before .before .before .before .shared-slice-known .given i .fits)) (c .before .before .before .before .before .before .before .before .before .before .pre .layout) (c .before .before .before .before .before .before .before .before .before .before .pre .accepted) (c .before .before .before .before .before .before .before .fields-at .result) (c .before .before .before .before .before .before .before .fields-at .ensures))), (omega (arith, kind-known (now (c .before .before .before .before .before .before .before .before .before .before .args .file)) (all-bytes (now (c .before .before .before .before .before .before .before .before .before .before .args .file)) (λ i. c .before .before .before .before .before .before .before .before .before .shared-slice-known .given i .fits)) (c .before .before .before .before .before .before .before .before .before .before .pre .layout) (c .before .before .before .before .before .before .before .before .before .before .pre .accepted) (file-variant (c .before .before .before .before .before .loop .v)) (omega (arith, count-is (now (c .before .before .before .before .before .before .before .before .before .before .args .file)) (all-bytes (now (c .before .before .before .before .before .before .before .before .before .before .args .file)) (λ i. c .before .before .before .before .before .before .before .before .before .shared-slice-known .given i .fits)) (c .before .before .before .before .before .before .before .before .before .before .pre .layout) (c .before .before .before .before .before .before .before .before .before .before .pre .accepted) (c .before .before .before .before .before .before .before .fields-at .result) (c .before .before .before .before .before .before .before .fields-at .ensures), c .before .before .before .before .loop-test .taken)) .0, ap (λ (z : Extent). z .kind) (c .before .before .before .extent-of .ensures (c .before .before .before .before .before .before .before .before .before .before .pre .layout) (c .before .before .before .before .before .before .before .before .before .before .pre .accepted))), λ z. kind-known (now (c .before .before .before .before .before .before .before .before .before .before .args .file)) (all-bytes (now (c .before .before .before .before .before .before .before .before .before .before .args .file)) (λ i. c .before .before .before .before .before .before .before .before .before .shared-slice-known .given i .fits)) (c .before .before .before .before .before .before .before .before .before .before .pre .layout) (c .before .before .before .before .before .before .before .before .before .before .pre .accepted) (file-variant (c .before .before .before .before .before .loop .v)) (omega (arith, count-is (now (c .before .before .before .before .before .before .before .before .before .before .args .file)) (all-bytes (now (c .before .before .before .before .before .before .before .before .before .before .args .file)) (λ i. c .before .before .before .before .before .before .before .before .before .shared-slice-known .given i .fits)) (c .before .before .before .before .before .before .before .before .before .before .pre .layout) (c .before .before .before .before .before .before .before .before .before .before .pre .accepted) (c .before .before .before .before .before .before .before .fields-at .result) (c .before .before .before .before .before .before .before .fields-at .ensures), c .before .before .before .before .loop-test .taken)) .1 (sym (ap (λ (z : Extent). z .kind) (c .before .before .before .extent-of .ensures (c .before .before .before .before .before .before .before .before .before .before .pre .layout) (c .before .before .before .before .before .before .before .before .before .before .pre .accepted))) ∙ z)))
 
--- src/lib.rt:35:36
 enum-known-got : tie.Need-enum-known-got Inv-loop μ-loop
 enum-known-got c = search needs
 
--- src/lib.rt:36:17
 same-length : tie.Need-same-length Inv-loop μ-loop
 same-length c = search needs
 
--- src/lib.rt:36:17
 returns : tie.Need-returns Inv-loop μ-loop
 returns c = λ l q. stops (now (c .before .before .before .before .before .before .before .before .before .before .before .before .before .before .before .before .args .file)) (all-bytes (now (c .before .before .before .before .before .before .before .before .before .before .before .before .before .before .before .before .args .file)) (λ i. c .before .before .before .before .before .before .before .before .before .before .before .before .before .before .before .shared-slice-known .given i .fits)) l q (now (c .before .before .before .before .before .before .before .before .before .before .before .before .before .before .before .before .args .row)) (c .before .before .before .before .before .before .before .before .before .before .before .loop .row) (c .before .before .before .before .before .before .before .before .before .before .before .loop .v) (c .before .before .before .before .before .before .before .before .before .before .before .loop .start) (c .before .before .before .before .before .before .before .before .before .before .before .loop .inv .0 l q) (omega (arith, count-is (now (c .before .before .before .before .before .before .before .before .before .before .before .before .before .before .before .before .args .file)) (all-bytes (now (c .before .before .before .before .before .before .before .before .before .before .before .before .before .before .before .before .args .file)) (λ i. c .before .before .before .before .before .before .before .before .before .before .before .before .before .before .before .shared-slice-known .given i .fits)) l q (c .before .before .before .before .before .before .before .before .before .before .before .before .before .fields-at .result) (c .before .before .before .before .before .before .before .before .before .before .before .before .before .fields-at .ensures), c .before .before .before .before .before .before .before .before .before .before .loop-test .taken)) (c .before .before .before .before .before .before .before .before .before .extent-of .result) (c .before .before .before .before .before .before .before .before .before .extent-of .ensures l q) (c .before .before .before .before .before .read-body .last .1 .1 .1 .1 .1 .0) (c .before .before .before .before .before .read-body .result) (c .before .before .before .before .before .read-body .ensures ∙ ap (λ (n : ℕ). recorded true n ((c .before .before .before .before .before .before .before .before .before .extent-of .result) .kind) (take (c .before .before .before .before .before .before .before .before .before .before .before .loop .start + (c .before .before .before .before .before .before .before .before .before .extent-of .result) .size) (now (c .before .before .before .before .before .before .before .before .before .before .before .before .before .before .before .before .args .file))) (c .before .before .before .before .before .before .before .before .before .before .before .loop .start) (c .before .before .before .before .before .before .before .before .before .before .before .loop .row)) (samples-are (now (c .before .before .before .before .before .before .before .before .before .before .before .before .before .before .before .before .args .file)) (all-bytes (now (c .before .before .before .before .before .before .before .before .before .before .before .before .before .before .before .before .args .file)) (λ i. c .before .before .before .before .before .before .before .before .before .before .before .before .before .before .before .shared-slice-known .given i .fits)) l q (c .before .before .before .before .before .before .before .before .before .before .before .before .before .fields-at .result) (c .before .before .before .before .before .before .before .before .before .before .before .before .before .fields-at .ensures))) (c .before .got .given .0 .0) (c .before .got .given .0 .1 .0) (c .before .got .given .1)
 
--- src/lib.rt:39:17
 enum-told : tie.Need-enum-told Inv-loop μ-loop
 enum-told c = search needs
 
--- src/lib.rt:40:21
 add-v : tie.Need-add-v Inv-loop μ-loop
 add-v c = search needs
 
--- src/lib.rt:30:5
 loop-less : tie.Need-loop-less Inv-loop μ-loop
 loop-less c = search needs
 
--- src/lib.rt:30:5
 loop-again : tie.Need-loop-again Inv-loop μ-loop
 loop-again c = (λ l q. goes-on (now (c .before .before .before .before .before .before .before .before .before .before .before .before .before .before .before .args .file)) (all-bytes (now (c .before .before .before .before .before .before .before .before .before .before .before .before .before .before .before .args .file)) (λ i. c .before .before .before .before .before .before .before .before .before .before .before .before .before .before .shared-slice-known .given i .fits)) l q (now (c .before .before .before .before .before .before .before .before .before .before .before .before .before .before .before .args .row)) (c .before .before .before .before .before .before .before .before .before .before .loop .row) (c .before .before .before .before .before .before .before .before .before .before .loop .v) (c .before .before .before .before .before .before .before .before .before .before .loop .start) (c .before .before .before .before .before .before .before .before .before .before .loop .inv .0 l q) (omega (arith, count-is (now (c .before .before .before .before .before .before .before .before .before .before .before .before .before .before .before .args .file)) (all-bytes (now (c .before .before .before .before .before .before .before .before .before .before .before .before .before .before .before .args .file)) (λ i. c .before .before .before .before .before .before .before .before .before .before .before .before .before .before .shared-slice-known .given i .fits)) l q (c .before .before .before .before .before .before .before .before .before .before .before .before .fields-at .result) (c .before .before .before .before .before .before .before .before .before .before .before .before .fields-at .ensures), c .before .before .before .before .before .before .before .before .before .loop-test .taken)) (c .before .before .before .before .before .before .before .before .extent-of .result) (c .before .before .before .before .before .before .before .before .extent-of .ensures l q) (c .before .before .before .before .read-body .last .1 .1 .1 .1 .1 .0) (c .before .before .before .before .read-body .result) (c .before .before .before .before .read-body .ensures ∙ ap (λ (n : ℕ). recorded true n ((c .before .before .before .before .before .before .before .before .extent-of .result) .kind) (take (c .before .before .before .before .before .before .before .before .before .before .loop .start + (c .before .before .before .before .before .before .before .before .extent-of .result) .size) (now (c .before .before .before .before .before .before .before .before .before .before .before .before .before .before .before .args .file))) (c .before .before .before .before .before .before .before .before .before .before .loop .start) (c .before .before .before .before .before .before .before .before .before .before .loop .row)) (samples-are (now (c .before .before .before .before .before .before .before .before .before .before .before .before .before .before .before .args .file)) (all-bytes (now (c .before .before .before .before .before .before .before .before .before .before .before .before .before .before .before .args .file)) (λ i. c .before .before .before .before .before .before .before .before .before .before .before .before .before .before .shared-slice-known .given i .fits)) l q (c .before .before .before .before .before .before .before .before .before .before .before .before .fields-at .result) (c .before .before .before .before .before .before .before .before .before .before .before .before .fields-at .ensures))) (c .enum-told .given .1), search (needs, c .before .before .before .before .before .before .before .before .before .before .loop .inv .1))
 
--- src/lib.rt:44:5
 clear-requires : tie.Need-clear-requires Inv-loop μ-loop
 clear-requires c κs = omega (arith, c .before .before .loop .inv .1, c .before .before .before .before .before .before .before .pre .room, samples-are (now (c .before .before .before .before .before .before .before .args .file)) (all-bytes (now (c .before .before .before .before .before .before .before .args .file)) (λ i. c .before .before .before .before .before .before .shared-slice-known .given i .fits)) (c .before .before .before .before .before .before .before .pre .layout) (c .before .before .before .before .before .before .before .pre .accepted) (c .before .before .before .before .fields-at .result) (c .before .before .before .before .fields-at .ensures))
 
--- src/lib.rt:21:1
 same-length-2 : tie.Need-same-length-2 Inv-loop μ-loop
 same-length-2 c = search needs
 
--- src/lib.rt:21:1
 returns-2 : tie.Need-returns-2 Inv-loop μ-loop
 returns-2 c = λ l q. ap (done Accepted) (c .before .before .clear .ensures ∙ ap (λ (n : ℕ). replicate n 0 ++ drop n (c .before .before .before .before .before .loop .row)) (samples-are (now (c .before .before .before .before .before .before .before .before .before .before .args .file)) (all-bytes (now (c .before .before .before .before .before .before .before .before .before .before .args .file)) (λ i. c .before .before .before .before .before .before .before .before .before .shared-slice-known .given i .fits)) l q (c .before .before .before .before .before .before .before .fields-at .result) (c .before .before .before .before .before .before .before .fields-at .ensures))) ∙ ends (now (c .before .before .before .before .before .before .before .before .before .before .args .file)) (all-bytes (now (c .before .before .before .before .before .before .before .before .before .before .args .file)) (λ i. c .before .before .before .before .before .before .before .before .before .shared-slice-known .given i .fits)) l q (now (c .before .before .before .before .before .before .before .before .before .before .args .row)) (c .before .before .before .before .before .loop .row) (c .before .before .before .before .before .loop .v) (c .before .before .before .before .before .loop .start) (omega (arith, count-is (now (c .before .before .before .before .before .before .before .before .before .before .args .file)) (all-bytes (now (c .before .before .before .before .before .before .before .before .before .before .args .file)) (λ i. c .before .before .before .before .before .before .before .before .before .shared-slice-known .given i .fits)) l q (c .before .before .before .before .before .before .before .fields-at .result) (c .before .before .before .before .before .before .before .fields-at .ensures), c .before .before .before .before .loop-test .left)) (c .before .before .before .before .before .loop .inv .0 l q)
 

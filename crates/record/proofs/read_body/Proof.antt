@@ -1,33 +1,28 @@
+-- `record::read_body` meets its contract.
+-- Assumes nothing.
 use Rattle.record.proofs.BodyLaws.{track-refused, track-ended, track-left}
 use borrow.Author.Needs.{needs}
 use Rattle.record.proofs.read_body.Statement.{statement}
 use Rattle.record.proofs.read_body.Tie as tie
 
--- src/lib.rt:131:9
 read-track-requires : tie.Need-read-track-requires
 read-track-requires c κs = search needs
 
--- src/lib.rt:133:29
 enum-known-got : tie.Need-enum-known-got
 enum-known-got c = search needs
 
--- src/lib.rt:134:13
 clear-requires : tie.Need-clear-requires
 clear-requires c κs = search needs
 
--- src/lib.rt:137:26
 enum-known-got-2 : tie.Need-enum-known-got-2
 enum-known-got-2 c = search needs
 
--- src/lib.rt:140:17
 clear-requires-2 : tie.Need-clear-requires-2
 clear-requires-2 c κs = search needs
 
--- src/lib.rt:141:17
 same-length : tie.Need-same-length
 same-length c = search needs
 
--- src/lib.rt:141:17
 returns : tie.Need-returns
 returns c =
     let args = c .before .before .before .before .before .before .before .before .before .before .before .before .before .before .args in
@@ -39,11 +34,9 @@ returns c =
     (pre .0 .0) (pre .0 .2) (read-track .result) (read-track .last .1 .1 .1 .1 .1 .0) (read-track .ensures) (got2 .given .0 .0) _ (got2 .given .1)
     (c .before .before .before .before .if1 .taken) (c .before .before .clear2 .ensures)
 
--- src/lib.rt:126:1
 same-length-2 : tie.Need-same-length-2
 same-length-2 c = search needs
 
--- src/lib.rt:126:1
 returns-2 : tie.Need-returns-2
 returns-2 c =
     let args = c .before .before .before .before .before .before .before .before .before .before .before .before .before .args in
@@ -55,11 +48,9 @@ returns-2 c =
     (pre .0 .0) (pre .0 .2) (read-track .result) (read-track .last .1 .1 .1 .1 .1 .0) (read-track .ensures) (got .given .0 .0) (got .given .0 .1 .0) _
     (got .given .1) (c .before .before .clear .ensures)
 
--- src/lib.rt:126:1
 same-length-3 : tie.Need-same-length-3
 same-length-3 c = search needs
 
--- src/lib.rt:126:1
 returns-3 : tie.Need-returns-3
 returns-3 c =
     let args = c .before .before .before .before .before .before .before .before .before .before .args in

@@ -1,21 +1,19 @@
+-- `record::read_leaning` meets its contract.
+-- Assumes nothing.
 use Rattle.record.proofs.RowLaws.{leaning-turned}
 use borrow.Author.Needs.{needs}
 use Rattle.record.proofs.read_leaning.Statement.{statement}
 use Rattle.record.proofs.read_leaning.Tie as tie
 
--- src/lib.rt:93:9
 apply-list-requires : tie.Need-apply-list-requires
 apply-list-requires c κs = search needs
 
--- src/lib.rt:94:5
 exchange-if-requires : tie.Need-exchange-if-requires
 exchange-if-requires c κs = search needs
 
--- src/lib.rt:88:1
 same-length : tie.Need-same-length
 same-length c = search needs
 
--- src/lib.rt:88:1
 returns : tie.Need-returns
 returns c =
     let args = c .before .before .before .before .before .before .before .before .before .before .args in

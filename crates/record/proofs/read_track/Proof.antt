@@ -1,47 +1,40 @@
+-- `record::read_track` meets its contract.
+-- Assumes nothing.
 use Rattle.record.proofs.BodyLaws.{of-array, of-paired, of-leaning, of-sparse}
 use borrow.Author.Needs.{needs}
 use Rattle.record.proofs.read_track.Statement.{statement}
 use Rattle.record.proofs.read_track.Tie as tie
 
--- src/lib.rt:113:9
 read-array-requires : tie.Need-read-array-requires
 read-array-requires c κs = search needs
 
--- src/lib.rt:113:9
 same-length : tie.Need-same-length
 same-length c = search needs
 
--- src/lib.rt:113:9
 returns : tie.Need-returns
 returns c =
     let args = c .before .before .before .before .before .before .before .args in
     of-array (args .s .now) (args .start) (args .n) (args .number) (args .keep) (args .row .now) _ (c .before .before .before .before .if1 .taken)
     (c .before .before .read-array .ensures)
 
--- src/lib.rt:116:9
 read-pair-requires : tie.Need-read-pair-requires
 read-pair-requires c κs = search needs
 
--- src/lib.rt:116:9
 same-length-2 : tie.Need-same-length-2
 same-length-2 c = search needs
 
--- src/lib.rt:116:9
 returns-2 : tie.Need-returns-2
 returns-2 c =
     let args = c .before .before .before .before .before .before .before .before .args in
     of-paired (args .s .now) (args .start) (args .n) (args .number) (args .keep) (args .row .now) _ (c .before .before .before .before .if2 .taken)
     (c .before .before .read-pair .ensures)
 
--- src/lib.rt:119:9
 read-leaning-requires : tie.Need-read-leaning-requires
 read-leaning-requires c κs = search needs
 
--- src/lib.rt:119:9
 same-length-3 : tie.Need-same-length-3
 same-length-3 c = search needs
 
--- src/lib.rt:119:9
 returns-3 : tie.Need-returns-3
 returns-3 c =
     let args = c .before .before .before .before .before .before .before .before .before .args in
@@ -49,15 +42,12 @@ returns-3 c =
     (c .before .before .before .before .before .before .if1 .left) (c .before .before .before .before .before .if2 .left)
     (c .before .before .before .before .if3 .taken) (c .before .before .read-leaning .ensures)
 
--- src/lib.rt:121:5
 read-sparse-requires : tie.Need-read-sparse-requires
 read-sparse-requires c κs = search needs
 
--- src/lib.rt:107:1
 same-length-4 : tie.Need-same-length-4
 same-length-4 c = search needs
 
--- src/lib.rt:107:1
 returns-4 : tie.Need-returns-4
 returns-4 c =
     let args = c .before .before .before .before .before .before .before .before .before .args in

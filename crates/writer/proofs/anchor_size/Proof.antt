@@ -4,18 +4,13 @@ use Rattle.writer.proofs.AskedLaws.{leans-not}
 use borrow.Author.Needs.{needs}
 use Rattle.writer.proofs.anchor_size.Statement.{statement}
 use Rattle.writer.proofs.anchor_size.Tie as tie
-use Rattle.writer.proofs.anchor_size.Reads as reads
-use Rattle.writer.proofs.anchor_size.Lts as lts
 
--- src/lib.rt:89:9
 returns : tie.Need-returns
 returns c = search needs
 
--- src/lib.rt:92:9
 returns-2 : tie.Need-returns-2
 returns-2 c = search needs
 
--- src/lib.rt:85:1
 returns-3 : tie.Need-returns-3
 returns-3 c = leans-not (c .before .before .args .kind) (c .before .before .args .samples) (c .before .if1 .left) (c .if2 .left)
 

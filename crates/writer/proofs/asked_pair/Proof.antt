@@ -4,35 +4,25 @@ use Rattle.writer.proofs.AskedLaws.{code-past, code-known, code-unknown
 use borrow.Author.Needs.{needs}
 use Rattle.writer.proofs.asked_pair.Statement.{statement}
 use Rattle.writer.proofs.asked_pair.Tie as tie
-use Rattle.writer.proofs.asked_pair.Reads as reads
-use Rattle.writer.proofs.asked_pair.Lts as lts
-use Rattle.format.proofs.pair_of.Reads as pair-of-reads
 
--- src/lib.rt:43:9
 returns : tie.Need-returns
 returns c = code-past (c .before .args .code) (c .if1 .taken)
 
--- src/lib.rt:45:19
 cast-pair-of : tie.Need-cast-pair-of
 cast-pair-of c = search needs
 
--- src/lib.rt:45:11
 pair-of-requires : tie.Need-pair-of-requires
 pair-of-requires c κs = search needs
 
--- src/lib.rt:46:26
 enum-known-pair : tie.Need-enum-known-pair
 enum-known-pair c = search needs
 
--- src/lib.rt:47:31
 enum-told : tie.Need-enum-told
 enum-told c = search needs
 
--- src/lib.rt:39:1
 returns-2 : tie.Need-returns-2
 returns-2 c = code-known (c .before .before .before .before .before .args .code) (c .before .before .before .pair-of .result) (c .before .pair .given .0 .0) (c .before .before .before .pair-of .ensures) (c .before .pair .given .1)
 
--- src/lib.rt:39:1
 returns-3 : tie.Need-returns-3
 returns-3 c = code-unknown (c .before .before .before .before .args .code) (c .before .before .pair-of .result) (c .before .before .pair-of .ensures) (c .enum-told .given .1)
 

@@ -6,70 +6,52 @@ use mathlib.Core.Path.{sym, _∙_}
 use borrow.Author.Needs.{needs}
 use Rattle.writer.proofs.check.Statement.{statement}
 use Rattle.writer.proofs.check.Tie as tie
-use Rattle.writer.proofs.check.Reads as reads
-use Rattle.writer.proofs.check.Lts as lts
-use Rattle.writer.proofs.anchor_size.Reads as anchor-size-reads
-use Rattle.writer.proofs.asked_for.Reads as asked-for-reads
-use Rattle.writer.proofs.first_above_3.Reads as first-above-3-reads
-use Rattle.writer.proofs.is_allowed.Reads as is-allowed-reads
 
--- src/lib.rt:118:9
 returns : tie.Need-returns
 returns c =
     let a = c .before .before .before .args in
     refused-none (a .categories .now) (a .kind) (a .code) (a .anchor .now) (c .if1 .taken)
 
--- src/lib.rt:121:9
 returns-2 : tie.Need-returns-2
 returns-2 c =
     let a = c .before .before .before .before .args in
     refused-many (a .categories .now) (a .kind) (a .code) (a .anchor .now) (c .if2 .taken)
 
--- src/lib.rt:123:9
 asked-for-requires : tie.Need-asked-for-requires
 asked-for-requires c κs = search needs
 
--- src/lib.rt:124:9
 is-allowed-requires : tie.Need-is-allowed-requires
 is-allowed-requires c κs = search needs
 
--- src/lib.rt:125:9
 returns-3 : tie.Need-returns-3
 returns-3 c =
     let a = c .before .before .before .before .before .before .before .args in
     refused-kind (a .categories .now) (a .kind) (a .code) (a .anchor .now) (c .before .before .before .before .if1 .left) (c .before .before .before .if2 .left) (c .before .before .asked-for .result) (c .before .before .asked-for .ensures) (sym (c .before .is-allowed .ensures) ∙ not-true (c .before .is-allowed .result) (c .if3 .taken))
 
--- src/lib.rt:127:24
 anchor-size-requires : tie.Need-anchor-size-requires
 anchor-size-requires c κs = search needs
 
--- src/lib.rt:128:9
 returns-4 : tie.Need-returns-4
 returns-4 c =
     let a = c .before .before .before .before .before .before .before .before .before .args in
     refused-anchor (a .categories .now) (a .kind) (a .code) (a .anchor .now) (c .before .before .before .before .before .before .if1 .left) (c .before .before .before .before .before .if2 .left) (c .before .before .before .before .asked-for .result) (c .before .before .before .before .asked-for .ensures) (sym (c .before .before .before .is-allowed .ensures) ∙ not-false (c .before .before .before .is-allowed .result) (c .before .before .if3 .left)) (c .before .anchor-size .result) (c .before .anchor-size .ensures) (c .if4 .taken)
 
--- src/lib.rt:130:9
 first-above-3-requires : tie.Need-first-above-3-requires
 first-above-3-requires c κs = search needs
 
--- src/lib.rt:132:9
 returns-5 : tie.Need-returns-5
 returns-5 c =
     let a = c .before .before .before .before .before .before .before .before .before .before .before .args in
     refused-category (a .categories .now) (a .kind) (a .code) (a .anchor .now) (c .before .before .before .before .before .before .before .before .if1 .left) (c .before .before .before .before .before .before .before .if2 .left) (c .before .before .before .before .before .before .asked-for .result) (c .before .before .before .before .before .before .asked-for .ensures) (sym (c .before .before .before .before .before .is-allowed .ensures) ∙ not-false (c .before .before .before .before .before .is-allowed .result) (c .before .before .before .before .if3 .left)) (c .before .before .before .anchor-size .result) (c .before .before .before .anchor-size .ensures) (c .before .before .if4 .left) (c .before .first-above-3 .result) (c .before .first-above-3 .ensures) (c .if5 .taken)
 
--- src/lib.rt:134:9
 first-above-3-requires-2 : tie.Need-first-above-3-requires-2
 first-above-3-requires-2 c κs = search needs
 
--- src/lib.rt:136:9
 returns-6 : tie.Need-returns-6
 returns-6 c =
     let a = c .before .before .before .before .before .before .before .before .before .before .before .before .before .args in
     refused-lent (a .categories .now) (a .kind) (a .code) (a .anchor .now) (c .before .before .before .before .before .before .before .before .before .before .if1 .left) (c .before .before .before .before .before .before .before .before .before .if2 .left) (c .before .before .before .before .before .before .before .before .asked-for .result) (c .before .before .before .before .before .before .before .before .asked-for .ensures) (sym (c .before .before .before .before .before .before .before .is-allowed .ensures) ∙ not-false (c .before .before .before .before .before .before .before .is-allowed .result) (c .before .before .before .before .before .before .if3 .left)) (c .before .before .before .before .before .anchor-size .result) (c .before .before .before .before .before .anchor-size .ensures) (c .before .before .before .before .if4 .left) (c .before .before .before .first-above-3 .result) (c .before .before .before .first-above-3 .ensures) (c .before .before .if5 .left) (c .before .first-above-32 .result) (c .before .first-above-32 .ensures) (c .if6 .taken)
 
--- src/lib.rt:113:1
 returns-7 : tie.Need-returns-7
 returns-7 c =
     let a = c .before .before .before .before .before .before .before .before .before .before .before .before .before .args in

@@ -6,8 +6,6 @@ use lib.ListN.{length}
 use Prim.Native.Nat.{_-_}
 use Rattle.writer.proofs.first_above_3.Statement.{statement}
 use Rattle.writer.proofs.first_above_3.Tie as tie
-use Rattle.writer.proofs.first_above_3.Reads as reads
-use Rattle.writer.proofs.first_above_3.Lts as lts
 
 abbrev Inv-loop : tie.InvT-loop
 Inv-loop categories i₀ i = Inv categories i
@@ -15,31 +13,24 @@ Inv-loop categories i₀ i = Inv categories i
 abbrev μ-loop : tie.MeasureT-loop
 μ-loop categories i₀ i = length categories - i
 
--- src/lib.rt:102:5
 loop-holds : tie.Need-loop-holds Inv-loop μ-loop
 loop-holds c = start (c .args .categories .now)
 
--- src/lib.rt:103:12
 shared-slice-read-if1 : tie.Need-shared-slice-read-if1 Inv-loop μ-loop
 shared-slice-read-if1 c = search needs
 
--- src/lib.rt:104:13
 returns : tie.Need-returns Inv-loop μ-loop
 returns c = turn-above (c .before .before .before .loop .inv) (c .before .before .loop-test .taken) (c .if1 .taken)
 
--- src/lib.rt:106:13
 add-i : tie.Need-add-i Inv-loop μ-loop
 add-i c = search needs
 
--- src/lib.rt:102:5
 loop-less : tie.Need-loop-less Inv-loop μ-loop
 loop-less c = search needs
 
--- src/lib.rt:102:5
 loop-again : tie.Need-loop-again Inv-loop μ-loop
 loop-again c = turn-next (c .before .before .before .loop .inv) (c .before .before .loop-test .taken) (c .if1 .left)
 
--- src/lib.rt:98:1
 returns-2 : tie.Need-returns-2 Inv-loop μ-loop
 returns-2 c = turn-done (c .before .loop .inv) (c .loop-test .left)
 

@@ -7,34 +7,25 @@ use Rattle.bytewriter.proofs.WrittenLaws.{wrote-length}
 use borrow.Author.Needs.{needs}
 use Rattle.writer.proofs.put_pair.Statement.{statement}
 use Rattle.writer.proofs.put_pair.Tie as tie
-use Rattle.writer.proofs.put_pair.Reads as reads
-use Rattle.writer.proofs.put_pair.Lts as lts
-use Rattle.bytewriter.proofs.put_array.Reads as put-array-reads
-use Rattle.listwriter.proofs.put_list.Reads as put-list-reads
 
--- src/lib.rt:175:5
 slice-write-output : tie.Need-slice-write-output
 slice-write-output c = search needs
 
--- src/lib.rt:176:9
 put-array-requires : tie.Need-put-array-requires
 put-array-requires c κs =
     let a = c .before .before .before .before .args in
     ((c .before .before .before .before .pre .0 .0 .small), room-bits (a .pair) (a .anchor .now) (a .categories .now) (a .output .now) (c .before .before .before .before .pre .1))
 
--- src/lib.rt:177:5
 put-list-requires : tie.Need-put-list-requires
 put-list-requires c κs =
     let a = c .before .before .before .before .before .before .before .before .args in
     ((rows-pair (asked.Pair (a .pair)) (a .pair) (a .anchor .now) (a .categories .now) (c .before .before .before .before .before .before .before .before .pre .0 .0), (c .before .before .before .before .before .before .before .before .pre .0 .1)), room-list (a .pair) (a .anchor .now) (a .categories .now) (a .output .now) (c .before .before .before .before .before .before .before .before .pre .1) (c .before .before .before .put-array .ensures))
 
--- src/lib.rt:168:1
 same-length : tie.Need-same-length
 same-length c =
     let a = c .before .before .before .before .before .before .before .before .before .before .before .args in
     wrote-length (pair-written (a .pair) (a .anchor .now) (a .categories .now) (a .output .now) (c .before .before .before .before .before .before .before .before .before .before .before .pre .1) (c .before .before .before .before .before .before .put-array .ensures) (c .before .before .put-list .ensures))
 
--- src/lib.rt:168:1
 returns : tie.Need-returns
 returns c =
     let a = c .before .before .before .before .before .before .before .before .before .before .before .args in

@@ -10,76 +10,58 @@ use native.Mathlib.Omega.{arith}
 use borrow.Author.Needs.{needs}
 use Rattle.writer.proofs.record_size.Statement.{statement}
 use Rattle.writer.proofs.record_size.Tie as tie
-use Rattle.writer.proofs.record_size.Reads as reads
-use Rattle.writer.proofs.record_size.Lts as lts
-use Rattle.bytewriter.proofs.array_size.Reads as array-size-reads
-use Rattle.listwriter.proofs.list_size.Reads as list-size-reads
 
--- src/lib.rt:149:31
 enum-told : tie.Need-enum-told
 enum-told c = search needs
 
--- src/lib.rt:149:20
 array-size-requires : tie.Need-array-size-requires
 array-size-requires c κs = search needs
 
--- src/lib.rt:151:21
 enum-known-asked : tie.Need-enum-known-asked
 enum-known-asked c = search needs
 
--- src/lib.rt:154:17
 array-size-requires-2 : tie.Need-array-size-requires-2
 array-size-requires-2 c κs = search needs
 
--- src/lib.rt:155:17
 list-size-requires : tie.Need-list-size-requires
 list-size-requires c κs =
     let a = c .before .before .before .before .before .before .args in
     rows-pair (a .asked) (c .before .before .asked .given .0 .0) (a .anchor .now) (a .categories .now) (c .before .before .before .before .before .before .pre)
 
--- src/lib.rt:158:24
 add-t15 : tie.Need-add-t15
 add-t15 c = search needs
 
--- src/lib.rt:158:24
 add-t17 : tie.Need-add-t17
 add-t17 c =
     let a = c .before .before .before .before .before .before .before .before .args in
     let p = (c .before .before .before .before .asked .given .0 .0) in let rows = rows-pair (a .asked) p (a .anchor .now) (a .categories .now) (c .before .before .before .before .before .before .before .before .pre) in omega (arith, (c .before .list-size .ensures .bytes-are), (c .before .before .array-size2 .ensures), (c .before .before .before .before .before .before .before .before .pre .few), list-most (length (a .categories .now)) (listed (base.Pair (p .lower) (p .higher)) (a .anchor .now) (a .categories .now)) (listed-most (base.Pair (p .lower) (p .higher)) (a .anchor .now) (a .categories .now) rows))
 
--- src/lib.rt:161:21
 enum-known-asked-2 : tie.Need-enum-known-asked-2
 enum-known-asked-2 c = search needs
 
--- src/lib.rt:161:30
 list-size-requires-2 : tie.Need-list-size-requires-2
 list-size-requires-2 c κs =
     let a = c .before .before .before .before .before .args in
     rows-list (a .asked) (c .before .asked2 .given .0 .0) (a .anchor .now) (a .categories .now) (c .before .asked2 .given .1) (c .before .before .before .before .before .pre)
 
--- src/lib.rt:162:30
 enum-told-2 : tie.Need-enum-told-2
 enum-told-2 c = search needs
 
--- src/lib.rt:142:1
 returns : tie.Need-returns
 returns c =
     let a = c .before .before .before .before .before .args in
     size-array (a .asked) (a .anchor .now) (a .categories .now) (c .before .enum-told .given .1) (c .array-size .result) (c .array-size .ensures)
 
--- src/lib.rt:142:1
 returns-2 : tie.Need-returns-2
 returns-2 c =
     let a = c .before .before .before .before .before .before .before .before .args in
     size-pair (a .asked) (a .anchor .now) (a .categories .now) (c .before .before .before .before .asked .given .0 .0) (c .before .before .before .before .asked .given .1) (c .before .before .array-size2 .result) (c .before .list-size .result) (c .before .before .array-size2 .ensures) (c .before .list-size .ensures)
 
--- src/lib.rt:142:1
 returns-3 : tie.Need-returns-3
 returns-3 c =
     let a = c .before .before .before .before .before .before .args in
     size-list (a .asked) (a .anchor .now) (a .categories .now) (c .before .before .asked2 .given .0 .0) (c .before .before .asked2 .given .1) (c .list-size2 .result) (c .list-size2 .ensures)
 
--- src/lib.rt:142:1
 returns-4 : tie.Need-returns-4
 returns-4 c = search needs
 

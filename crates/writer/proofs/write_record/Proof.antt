@@ -5,53 +5,39 @@ use native.Mathlib.Omega.{arith}
 use borrow.Author.Needs.{needs}
 use Rattle.writer.proofs.write_record.Statement.{statement}
 use Rattle.writer.proofs.write_record.Tie as tie
-use Rattle.writer.proofs.write_record.Reads as reads
-use Rattle.writer.proofs.write_record.Lts as lts
-use Rattle.writer.proofs.check.Reads as check-reads
-use Rattle.writer.proofs.put_record.Reads as put-record-reads
-use Rattle.writer.proofs.record_size.Reads as record-size-reads
 
--- src/lib.rt:218:11
 check-requires : tie.Need-check-requires
 check-requires c κs = search needs
 
--- src/lib.rt:219:26
 enum-known-number : tie.Need-enum-known-number
 enum-known-number c = search needs
 
--- src/lib.rt:220:26
 enum-known-asked : tie.Need-enum-known-asked
 enum-known-asked c = search needs
 
--- src/lib.rt:221:17
 record-size-requires : tie.Need-record-size-requires
 record-size-requires c κs =
     let a = c .before .before .before .before .before .before .before .args in
     call-fits (a .categories .now) (a .kind) (a .code) (a .anchor .now) (a .output .now) (c .before .before .before .check .result) (c .before .before .before .check .ensures) (c .before .asked .given .0 .0) (c .before .asked .given .1)
 
--- src/lib.rt:223:17
 returns : tie.Need-returns
 returns c =
     let a = c .before .before .before .before .before .before .before .before .before .before .args in
     call-short (a .categories .now) (a .kind) (a .code) (a .anchor .now) (a .output .now) (c .before .before .before .before .before .before .check .result) (c .before .before .before .before .before .before .check .ensures) (c .before .before .before .before .asked .given .0 .0) (c .before .before .before .before .asked .given .1) (c .before .before .record-size .result .bytes) (c .before .before .record-size .ensures .bytes-are) (c .if1 .taken)
 
--- src/lib.rt:229:17
 put-record-requires : tie.Need-put-record-requires
 put-record-requires c κs =
     let a = c .before .before .before .before .before .before .before .before .before .before .before .args in
     ((call-fits (a .categories .now) (a .kind) (a .code) (a .anchor .now) (a .output .now) (c .before .before .before .before .before .before .before .check .result) (c .before .before .before .before .before .before .before .check .ensures) (c .before .before .before .before .before .asked .given .0 .0) (c .before .before .before .before .before .asked .given .1), (c .before .before .before .record-size .ensures .count-is)), omega (arith, (c .before .before .before .record-size .ensures .bytes-are), (c .before .if1 .left)))
 
--- src/lib.rt:209:1
 returns-2 : tie.Need-returns-2
 returns-2 c =
     let a = c .before .before .before .before .before .before .before .args in
     call-refused (a .categories .now) (a .kind) (a .code) (a .anchor .now) (a .output .now) (c .before .before .before .check .result) (c .before .before .before .check .ensures) (c .before .number .given .0 .0) (c .before .number .given .0 .1 .0) (c .before .number .given .1)
 
--- src/lib.rt:209:1
 same-length : tie.Need-same-length
 same-length c = search needs
 
--- src/lib.rt:209:1
 returns-3 : tie.Need-returns-3
 returns-3 c =
     let a = c .before .before .before .before .before .before .before .before .before .before .before .before .before .before .args in

@@ -1,14 +1,14 @@
+-- `cursor::Cursor::varint` meets its contract.
+-- Assumes nothing.
 use Rattle.cursor.proofs.VarintLaws.{varint-here}
 use mathlib.Core.Path.{sym, _∙_}
 use borrow.Author.Needs.{needs}
 use Rattle.cursor.proofs.Cursor.varint.Statement.{statement}
 use Rattle.cursor.proofs.Cursor.varint.Tie as tie
 
--- src/lib.rt:82:9
 varint-from-requires : tie.Need-varint-from-requires
 varint-from-requires c κs = search needs
 
--- src/lib.rt:77:5
 returns : tie.Need-returns
 returns c = c .varint-from .ensures ∙ sym (varint-here (c .before .before .args .s .now) (c .before .before .args .self .at) (c .before .before .pre))
 

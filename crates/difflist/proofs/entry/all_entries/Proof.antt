@@ -1,3 +1,5 @@
+-- `difflist::entry::all_entries` meets its contract.
+-- Assumes nothing.
 use native.Mathlib.Omega.{arith}
 use mathlib.Core.Path.{refl}
 use borrow.Author.Needs.{needs}
@@ -14,11 +16,9 @@ Inv-loop s n values store held count row₀ st₀ more₀ row st more = Inv s n 
 abbrev μ-loop : tie.MeasureT-loop
 μ-loop s n values store held count row₀ st₀ more₀ row st more = more
 
--- src/entry.rt:188:5
 loop-holds : tie.Need-loop-holds Inv-loop μ-loop
 loop-holds c = record { same = refl; room = c .before .before .pre .0; keeps = refl }
 
--- src/entry.rt:189:13
 next-entry-requires : tie.Need-next-entry-requires Inv-loop μ-loop
 next-entry-requires c κs =
     let args = c .before .before .before .before .before .args in
@@ -26,34 +26,27 @@ next-entry-requires c κs =
     let loop-test = c .before .loop-test in
     (ready (args .s .now) (args .n) (args .values) (loop .more) (loop .st) (loop-test .taken) (loop .inv .room), (omega (arith, loop .inv .keeps, c .before .before .before .before .before .pre .1), omega (arith, loop .inv .room .values, loop-test .taken)))
 
--- src/entry.rt:191:31
 enum-known-got : tie.Need-enum-known-got Inv-loop μ-loop
 enum-known-got c = search needs
 
--- src/entry.rt:192:17
 same-length : tie.Need-same-length Inv-loop μ-loop
 same-length c = search needs
 
--- src/entry.rt:192:17
 returns : tie.Need-returns Inv-loop μ-loop
 returns c =
     turn-stop (c .before .before .before .before .before .before .before .before .loop .inv)
     (c .before .before .before .before .before .before .before .loop-test .taken) (c .before .before .before .before .before .next-entry .ensures)
     (c .before .got .given .1)
 
--- src/entry.rt:194:27
 enum-known-got-2 : tie.Need-enum-known-got-2 Inv-loop μ-loop
 enum-known-got-2 c = search needs
 
--- src/entry.rt:196:24
 sub-more : tie.Need-sub-more Inv-loop μ-loop
 sub-more c = search needs
 
--- src/entry.rt:188:5
 loop-less : tie.Need-loop-less Inv-loop μ-loop
 loop-less c = search needs
 
--- src/entry.rt:188:5
 loop-again : tie.Need-loop-again Inv-loop μ-loop
 loop-again c =
     let y = c .before .before .before .before .before .before .before .before .before .before .shared-slice-known .given in turn-on
@@ -61,11 +54,9 @@ loop-again c =
     (c .before .before .before .before .before .before .before .loop-test .taken) (λ i. y i .fits)
     (c .before .before .before .before .before .next-entry .ensures) (c .before .got2 .given .1)
 
--- src/entry.rt:181:1
 same-length-2 : tie.Need-same-length-2 Inv-loop μ-loop
 same-length-2 c = search needs
 
--- src/entry.rt:181:1
 returns-2 : tie.Need-returns-2 Inv-loop μ-loop
 returns-2 c = turn-done (c .before .loop .inv) (c .loop-test .left)
 

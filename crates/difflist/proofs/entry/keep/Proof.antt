@@ -1,20 +1,18 @@
+-- `difflist::entry::keep` meets its contract.
+-- Assumes nothing.
 use borrow.Author.Needs.{needs}
 use Rattle.difflist.proofs.entry.keep.Statement.{statement}
 use Rattle.difflist.proofs.entry.keep.Tie as tie
 
--- src/entry.rt:141:9
 slice-write-row : tie.Need-slice-write-row
 slice-write-row c = search needs
 
--- src/entry.rt:136:1
 same-length : tie.Need-same-length
 same-length c = search needs
 
--- src/entry.rt:136:1
 returns : tie.Need-returns
 returns c = simp (c .if1 .taken)
 
--- src/entry.rt:136:1
 returns-2 : tie.Need-returns-2
 returns-2 c = search needs
 

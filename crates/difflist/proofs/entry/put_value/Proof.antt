@@ -1,33 +1,28 @@
+-- `difflist::entry::put_value` meets its contract.
+-- Assumes nothing.
 use Rattle.difflist.proofs.TurnLaws.{put-on, put-stop}
 use borrow.Author.Needs.{needs}
 use Rattle.difflist.proofs.entry.put_value.Statement.{statement}
 use Rattle.difflist.proofs.entry.put_value.Tie as tie
 
--- src/entry.rt:153:9
 two-bits-requires : tie.Need-two-bits-requires
 two-bits-requires c κs = search needs
 
--- src/entry.rt:154:23
 slice-read-may-hold : tie.Need-slice-read-may-hold
 slice-read-may-hold c = search needs
 
--- src/entry.rt:154:8
 may-hold-requires : tie.Need-may-hold-requires
 may-hold-requires c κs = search needs
 
--- src/entry.rt:155:9
 keep-requires : tie.Need-keep-requires
 keep-requires c κs = search needs
 
--- src/entry.rt:157:23
 add-next : tie.Need-add-next
 add-next c = search needs
 
--- src/entry.rt:158:9
 same-length : tie.Need-same-length
 same-length c = search needs
 
--- src/entry.rt:158:9
 returns : tie.Need-returns
 returns c =
     let args = c .before .before .before .before .before .before .before .before .before .before .args in
@@ -37,11 +32,9 @@ returns c =
     put-on (args .s .now) (args .values) (args .store) (args .held) (args .st) (args .row .now) (two-bits .result) (two-bits .ensures)
     (may-hold .result) (may-hold .ensures) (c .before .before .before .before .if1 .taken) (keep .last .0) (keep .ensures)
 
--- src/entry.rt:162:16
 add-t18 : tie.Need-add-t18
 add-t18 c = search needs
 
--- src/entry.rt:146:1
 returns-2 : tie.Need-returns-2
 returns-2 c =
     let args = c .before .before .before .before .before .before .args in

@@ -1,23 +1,19 @@
+-- `probe::cases::byte` meets its contract.
+-- Assumes nothing.
 use native.Mathlib.Omega.{arith}
 use borrow.Author.Needs.{needs}
 use Rattle.probe.proofs.cases.byte.Statement.{statement}
 use Rattle.probe.proofs.cases.byte.Tie as tie
-use Rattle.probe.proofs.cases.byte.Reads as reads
-use Rattle.probe.proofs.cases.byte.Lts as lts
 
--- src/cases.rt:19:16
 shared-slice-read-result : tie.Need-shared-slice-read-result
 shared-slice-read-result c = search needs
 
--- src/cases.rt:19:16
 cast-result : tie.Need-cast-result
 cast-result c = omega (arith, c .shared-slice-known .given (c .before .before .args .at))
 
--- src/cases.rt:19:9
 returns : tie.Need-returns
 returns c = omega (arith, c .shared-slice-known .given (c .before .before .args .at))
 
--- src/cases.rt:15:1
 returns-2 : tie.Need-returns-2
 returns-2 c = search needs
 
