@@ -1,6 +1,6 @@
 """Compares the built programs with the independent program.
 
-    python3 compare.py                 the committed cases, the real files, fresh cases from a new seed
+    python3 compare.py                 the committed cases, the real files, the listing, fresh cases from a new seed
     python3 compare.py --seed S        the same with the fresh cases of seed S, to run a failure again
     python3 compare.py --minutes N     fresh cases for about N minutes, seed after seed
 
@@ -78,6 +78,15 @@ def real_files(tally):
         data = b"".join(input_bytes(Case(READ, v, 0, file, b"", samples, samples)) for v in range(len(rows)))
         want = "".join(f"0 0 o {bytes(map(int, row)).hex()} w {bytes(samples).hex()}\n" for row in rows).encode()
         tally.same(f"real/{path.name}", run("probe", data), want, len(rows))
+        tally.same(f"listing of real/{path.name}", run("pgenlist", file), reference.listing(file).encode())
+
+
+def listings(tally):
+    """The listing of file A, cut at every length, and of inputs of and above the limit."""
+    file = (ROOT / "examples" / "a.pgen").read_bytes()
+    inputs = [file[:n] for n in range(len(file) + 1)] + [bytes(65536), bytes(65537)]
+    for data in inputs:
+        tally.same(f"listing of {len(data)} bytes", run("pgenlist", data), reference.listing(data).encode())
 
 
 def fresh(tally, seed):
@@ -107,6 +116,7 @@ def main():
     tally = Tally()
     committed(tally)
     real_files(tally)
+    listings(tally)
     if words.seed is not None:
         fresh(tally, words.seed)
     else:

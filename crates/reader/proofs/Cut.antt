@@ -29,8 +29,9 @@ use Rattle.format.proofs.RefusalsByIndex.{fixed-at, fixed-at-layout}
 use Rattle.blocks.specs.declared.Fields.{Fields}
 use Rattle.blocks.specs.Parts.{fixed, fields-of}
 use Rattle.places.specs.declared.Place.{Place}
-use Rattle.places.specs.Located.{HasVariant, place-in}
-use Rattle.places.proofs.AcceptedLaws.{record-ends}
+use Rattle.places.specs.declared.Extent.{Extent}
+use Rattle.places.specs.Located.{HasVariant, place-in, extent-in}
+use Rattle.places.proofs.AcceptedLaws.{same-place, record-ends}
 use Rattle.places.proofs.FromReply.{part-is}
 use Rattle.record.specs.Recorded.{replied, recorded}
 
@@ -80,6 +81,12 @@ module _ (bs : List ℕ) (y : Bytes bs) (l : Layout) (a : read-layout 65536 bs �
     kind-known =
         allowed (in-block 65536 (file-variant (0 + v .0))) (type-of l v)
         (types-allowed-at 65536 0 (v .0) (l .types) (obeys .types) (omega (arith, one-type-each 65536 l obeys)))
+
+    -- its place, from where it starts, its length and its type
+    pub walk-place : (start : ℕ) → start ≡ record-start 65536 l v → (x : Extent) → x ≡ extent-in l v
+        → _≡_ {A = Place} (record { start = start; end = start + x .size; kind = x .kind }) (place-in l v)
+    walk-place start s x e =
+        same-place start (start + x .size) (x .kind) (place-in l v) s (omega (arith, ap (λ (z : Extent). z .size) e, record-end 65536 v l b, s)) (ap (λ (z : Extent). z .kind) e)
 
     module _ (start end kind : ℕ) (p : _≡_ {A = Place} (record { start = start; end = end; kind = kind }) (place-in l v)) where
       ends : end ≡ start + length (getD (l .bodies) (v .0) [])

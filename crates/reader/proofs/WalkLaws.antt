@@ -18,18 +18,16 @@ use Rattle.format.specs.File.{read-all, type-of}
 use Rattle.format.proofs.OffsetsLaws.{from-1-to-positive}
 use Rattle.format.proofs.AnchorLaws.{stands-at}
 use Rattle.format.proofs.FileLaws.{one-type-each}
-use Rattle.format.proofs.StartLaws.{record-end}
 use Rattle.format.proofs.RecordTurns.{outcome, left-to-check, record-over, then-check, all-left, none-left, turn-check, first-over-any, row-carried}
 use Rattle.places.specs.declared.Extent.{Extent}
 use Rattle.places.specs.declared.Place.{Place}
 use Rattle.places.specs.Located.{place-in, extent-in}
-use Rattle.places.proofs.AcceptedLaws.{same-place}
 use Rattle.record.specs.declared.RecordReply.{RecordReply}
 use Rattle.record.specs.declared.RecordReply.the-variants.{Accepted, Refused}
 use Rattle.record.specs.Recorded.{Outcome, done, replied, recorded}
 use Rattle.reader.specs.Rows.{record-reply, all-checked}
 use Rattle.reader.proofs.Replies.{row-of, reply-of, refusal}
-use Rattle.reader.proofs.Cut.{obeys, body-is-bytes, recorded-is}
+use Rattle.reader.proofs.Cut.{obeys, body-is-bytes, walk-place, recorded-is}
 
 -- before the record of variant v, that starts at `start`
 pub record Walk (l : Layout) (row₀ row : List ℕ) (v start : ℕ) : Type 0 where
@@ -72,9 +70,7 @@ module _ (bs : List ℕ) (y : Bytes bs) (l : Layout) (a : read-layout 65536 bs �
 
   module _ (row : List ℕ) (v start : ℕ) (w : Walk l row₀ row v start) (b : v < length (l .bodies)) (x : Extent) (e : x ≡ extent-in l (file-variant v)) where
     pub its-place : _≡_ {A = Place} (record { start = start; end = start + x .size; kind = x .kind }) (place-in l (file-variant v))
-    its-place =
-        same-place start (start + x .size) (x .kind) (place-in l (file-variant v)) (w .start-is)
-        (omega (arith, ap (λ (z : Extent). z .size) e, record-end 65536 (file-variant v) l b, w .start-is)) (ap (λ (z : Extent). z .kind) e)
+    its-place = walk-place bs y l a (file-variant v) b start (w .start-is) x e
 
     module _ (row₁ : List ℕ) (r : RecordReply) (d : done r row₁ ≡ recorded true (l .samples) (x .kind) (take (start + x .size) bs) start row) where
       found : done r row₁ ≡ replied (leans (type-of l (file-variant v))) (l .samples) row (record-over 65536 l v (take (l .samples) row))
