@@ -128,7 +128,7 @@ pub fn lookup(file: &[u8], variant: FileVariant, sample: usize, work: &mut [u8])
             if sample >= samples {
                 return no_category(11);
             }
-            let got = read_row(file, samples, variant, work);
+            let got = reader::read_row(file, samples, variant, work);
             match got {
                 RecordReply::Refused { number, place } => LookupReply::Refused { number, place },
                 RecordReply::Accepted => {
