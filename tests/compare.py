@@ -1,6 +1,6 @@
 """Compares the built programs with the independent program.
 
-    python3 compare.py                 the committed cases, the real files, the listing, fresh cases from a new seed
+    python3 compare.py                 the committed cases, the real files, the listing, document 01's examples, fresh cases from a new seed
     python3 compare.py --seed S        the same with the fresh cases of seed S, to run a failure again
     python3 compare.py --minutes N     fresh cases for about N minutes, seed after seed
 
@@ -16,6 +16,7 @@ from pathlib import Path
 import pgen_reference as reference
 from pgen_cases import READ, Case
 from probe_cases import all_cases, input_bytes, line_of, reply_to
+from program_laws import check_examples, check_flips
 
 HERE = Path(__file__).resolve().parent
 ROOT = HERE.parent
@@ -94,6 +95,7 @@ def fresh(tally, seed):
     print(f"fresh cases, seed {seed}")
     data, want = joined(all_cases(seed, FRESH_CASES))
     tally.same(f"fresh cases of seed {seed}", run("probe", data), want, FRESH_CASES)
+    check_flips(tally, run, seed)
 
 
 def write_committed():
@@ -117,6 +119,7 @@ def main():
     committed(tally)
     real_files(tally)
     listings(tally)
+    check_examples(tally, run)
     if words.seed is not None:
         fresh(tally, words.seed)
     else:
