@@ -43,3 +43,4 @@ pub mod CallLaws
 pub mod Orders
 pub mod InOrderLaws
 pub mod RecordTurns
+pub mod Unique

@@ -38,7 +38,7 @@ module _ (bs work : List ℕ) (y : Bytes bs) (r : HeaderReply) (e : header-left 
   pub header-refused : (number place : ℕ) → r ≡ Refused number place → check-left (Refused number place) work ≡ check-call 65536 bs work
   unfolding check-call
   header-refused number place q =
-      let k : read-layout 65536 bs ≡ refuse number place = reply-refused bs number place y (rw q at e) in
+      let k : read-layout 65536 bs ≡ refuse number place = reply-refused bs number place (rw q at e) in
       simp (k, header-keeps bs number place k)
 
   module _ (mode variants samples form : ℕ) (q : r ≡ Accepted mode variants samples form) where

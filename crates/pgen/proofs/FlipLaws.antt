@@ -38,7 +38,7 @@ module _ (bs set work : List ℕ) (y : Bytes bs) (r : HeaderReply) (e : header-l
   pub flip-header-refused : (number place : ℕ) → r ≡ header.Refused number place → flip-left (Refused number place) bs work ≡ flip-call 65536 bs set work
   unfolding flip-call
   flip-header-refused number place q =
-      let k : read-layout 65536 bs ≡ refuse number place = reply-refused bs number place y (rw q at e) in
+      let k : read-layout 65536 bs ≡ refuse number place = reply-refused bs number place (rw q at e) in
       simp (k, header-keeps bs number place k)
 
   module _ (mode variants samples form : ℕ) (q : r ≡ header.Accepted mode variants samples form) where

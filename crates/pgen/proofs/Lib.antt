@@ -4,4 +4,3 @@ pub mod CheckLaws
 pub mod ReadLaws
 pub mod FlipLaws
 pub mod FlipPromises
-pub mod Unique

@@ -35,7 +35,7 @@ use Rattle.pgen.proofs.WorkLaws.{header-keeps, record-clears}
 module _ (bs : List ℕ) (v : FileVariant) (work : List ℕ) (y : Bytes bs) (r : HeaderReply) (e : header-left r ≡ header-call 65536 bs) where
   -- 1 to 9
   refused-layout : (number place : ℕ) → r ≡ header.Refused number place → read-layout 65536 bs ≡ refuse number place
-  refused-layout number place q = reply-refused bs number place y (rw q at e)
+  refused-layout number place q = reply-refused bs number place (rw q at e)
 
   pub read-header-refused : (output : List ℕ) (number place : ℕ) → r ≡ header.Refused number place → read-left (Refused number place) output work ≡ read-call 65536 bs v output work
   unfolding read-call

@@ -1,9 +1,8 @@
 // The public calls. What each replies, and what it leaves in everything it was lent, is one equation, for all inputs.
 ghost use mathlib.Core.Path.{_≡_};
-ghost use Rattle.format.specs.Reply.{header-left, header-call, check-left, check-call, read-left, read-call, lookup-left, lookup-call, view-call, write-left, write-call, past-last, flip-left, flip-call};
+ghost use Rattle.format.specs.Reply.{header-left, header-call, check-left, check-call, read-left, read-call, lookup-left, lookup-call, view-left, view-call, write-left, write-call, past-last, flip-left, flip-call};
 ghost use Rattle.format.specs.declared.Reply.the-variants as done;
 ghost use Rattle.format.specs.declared.LookupReply.the-variants as none;
-ghost use Rattle.pgen.specs.Viewed.{viewed};
 use flipfile::flip_accepted;
 use flipheader::byte_at;
 use format::FileVariant;
@@ -148,7 +147,7 @@ pub fn view<'a>(
     refusal: &mut u8,
     place: &mut usize,
 ) -> &'a [u8]
-    ensures { λ r. ⌜ viewed (now (refusal .exit)) (now (place .exit)) (now r) ≡ view-call 65536 (now (file .entry)) variant ⌝ }
+    ensures { λ r. ⌜ view-left (now (refusal .exit)) (now (place .exit)) (now r) ≡ view-call 65536 (now (file .entry)) variant ⌝ }
 {
     match header::check(file) {
         HeaderReply::Refused { number, place: at } => {

@@ -2,5 +2,5 @@ pub mod AskedLaws
 pub mod CheckLaws
 pub mod SizeLaws
 pub mod CallLaws
-pub mod Unique
+pub mod Allowed
 pub mod Promises
