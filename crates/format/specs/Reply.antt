@@ -45,8 +45,11 @@ given f other (refuse number place) = other
 abbrev pub keeps-work : ℕ → Bool
 keeps-work number = (leb 1 number && leb number 11) || eqb number 21
 
+abbrev pub emptied : ℕ → List ℕ → List ℕ
+emptied N row = replicate N 0 ++ drop N row
+
 abbrev pub work-after : ℕ → ℕ → List ℕ → List ℕ
-work-after N number work = pick (keeps-work number) work (replicate N 0 ++ drop N work)
+work-after N number work = pick (keeps-work number) work (emptied N work)
 
 -- N of a file whose header is accepted
 abbrev pub samples-of : ℕ → List ℕ → ℕ
@@ -203,12 +206,12 @@ write-left (write.Refused number place) output = record { accepted = false; refu
 
 -- 01: "It replies with the byte count; bytes past it are untouched. A refusal has count 0."
 unfoldable pub write-call : List ℕ → ℕ → ℕ → List ℕ → List ℕ → Written
-write-call categories number code lent output = record {
-  accepted = is-accepted (write-record categories number code lent (length output));
-  refusal = refusal-of (write-record categories number code lent (length output));
-  place = refused-at (write-record categories number code lent (length output));
-  count = given length 0 (write-record categories number code lent (length output));
-  output = given (λ (bs : List ℕ). bs ++ drop (length bs) output) output (write-record categories number code lent (length output));
+write-call categories number code anchor output = record {
+  accepted = is-accepted (write-record categories number code anchor (length output));
+  refusal = refusal-of (write-record categories number code anchor (length output));
+  place = refused-at (write-record categories number code anchor (length output));
+  count = given length 0 (write-record categories number code anchor (length output));
+  output = given (λ (bs : List ℕ). bs ++ drop (length bs) output) output (write-record categories number code anchor (length output));
 }
 
 -- ---- flip
@@ -220,7 +223,7 @@ set-bit set v = eqb (getD set (v / 8) 0 / 2 ^ (v % 8) % 2) 1
 abbrev pub member : List ℕ → FileVariant → Bool
 member set v = set-bit set (v .0)
 
--- 01: 21, "flip set has bits past the last variant": of its last byte, which holds a bit of variant M − 1, the bits from M on
+-- 01: 21, "flip set has bits past the last variant": what the set holds from bit M on, 0 where M bits fill its last byte
 abbrev pub past-last : ℕ → List ℕ → ℕ
 past-last M set = getD set (M / 8) 0 / 2 ^ (M % 8)
 
