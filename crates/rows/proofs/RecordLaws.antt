@@ -19,7 +19,7 @@ use Rattle.format.specs.Header.{type-place}
 use Rattle.format.proofs.Rules.{Holds, by-need, never-both}
 use Rattle.format.proofs.ByIndex.{type-at}
 use Rattle.blocks.specs.Parts.{fixed}
-use Rattle.flipheader.specs.Reads.{kind-at, size-at}
+use Rattle.extents.specs.Extent.{kind-at, size-at}
 use Rattle.places.specs.declared.Place.{Place}
 use Rattle.reader.proofs.Cut.{allowed, both}
 use Rattle.rows.specs.declared.Rows.{Rows}

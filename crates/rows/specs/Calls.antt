@@ -15,7 +15,7 @@ use Rattle.format.specs.Layout.{most-samples, most-variants, header-end, Layout
 use Rattle.format.specs.Header.{type-place}
 use Rattle.format.specs.Reply.{holds-row, with-layout}
 use Rattle.blocks.specs.Parts.{fixed, fields-of}
-use Rattle.flipheader.specs.Reads.{kind-at, size-at}
+use Rattle.extents.specs.Extent.{kind-at, size-at}
 use Rattle.places.specs.declared.Place.{Place}
 use Rattle.record.specs.declared.RecordReply.the-variants as record-reply
 use Rattle.record.specs.Recorded.{Outcome, done, recorded}

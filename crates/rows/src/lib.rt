@@ -11,12 +11,14 @@ ghost use Rattle.format.specs.Layout.{type-allowed};
 ghost use Rattle.format.specs.Layout.{plain-mode};
 ghost use Rattle.format.specs.Header.{type-place};
 ghost use Rattle.blocks.specs.Parts.{fixed};
-ghost use Rattle.flipheader.specs.Reads.{kind-at, size-at};
 ghost use Rattle.rows.specs.declared.Found.the-variants as found-as;
 ghost use Rattle.rows.specs.Calls.{start-rows-call, next-record, found, past, Ready, read-at, alone, over-anchor, row-left, next-row-call};
 use blocks::Fields;
+use blocks::blocks_of;
 use blocks::header_end;
-use flipheader::Header;
+use columns::type_place;
+use extents::kind_of;
+use extents::size_of;
 use format::BlockVariant;
 use format::FileVariant;
 use format::HeaderReply;
@@ -113,52 +115,12 @@ fn none(number: u8, place: usize) -> Found
     Found::Refused { number, place }
 }
 
-// The kind and the size of a variant's record, and the byte that holds its type.
-fn kind_of(file: &[u8], f: Fields, v: FileVariant) -> u8
-    requires { ⌜ (f .variants ≤ 16777216) × (v .0 < f .variants) ⌝ }
-    ensures { λ r. ⌜ r ≡ kind-at 65536 (fixed f) (now (file .entry)) v ⌝ }
-{
-    flipheader::kind_of(
-        file,
-        Header {
-            mode: f.mode,
-            variants: f.variants,
-            samples: f.samples,
-            form: f.form,
-        },
-        v,
-    )
-}
-
-fn size_of(file: &[u8], f: Fields, v: FileVariant) -> usize
-    requires { ⌜ (f .variants ≤ 16777216) × (v .0 < f .variants) × (f .samples ≤ 65536) ⌝ }
-    ensures { λ r. ⌜ r ≡ size-at 65536 (fixed f) (now (file .entry)) v ⌝ }
-{
-    flipheader::size_of(
-        file,
-        Header {
-            mode: f.mode,
-            variants: f.variants,
-            samples: f.samples,
-            form: f.form,
-        },
-        v,
-    )
-}
-
+// 01, Replies: the place of refusal 8, the "byte holding it".
 fn place_of_type(f: Fields, v: FileVariant) -> usize
     requires { ⌜ (f .variants ≤ 16777216) × (v .0 < f .variants) × (plain-mode (fixed f) ≡ false) ⌝ }
     ensures { λ r. ⌜ r ≡ type-place 65536 (fixed f) v ⌝ }
 {
-    flipheader::place_of_type(
-        Header {
-            mode: f.mode,
-            variants: f.variants,
-            samples: f.samples,
-            form: f.form,
-        },
-        v,
-    )
+    type_place(blocks_of(f), v)
 }
 
 // The next record, in the order of the refusals: 4, 10 and 11 by the state and the buffers' sizes, 8 and 9 by the file.
