@@ -70,16 +70,28 @@ def committed(tally):
     tally.same("crates/probe/stdout", (folder / "stdout").read_bytes(), want)
 
 
+def real_file(tally, path):
+    """A file made by plink2 reads as plink2 itself exported it."""
+    file = path.read_bytes()
+    samples = int.from_bytes(file[7:11], "little")
+    rows = path.with_suffix(".categories").read_text().split()
+    data = b"".join(input_bytes(Case(READ, v, 0, file, b"", samples, samples)) for v in range(len(rows)))
+    want = "".join(f"0 0 o {bytes(map(int, row)).hex()} w {bytes(samples).hex()}\n" for row in rows).encode()
+    tally.same(f"real/{path.name}", run("probe", data), want, len(rows))
+    tally.same(f"listing of real/{path.name}", run("pgenlist", file), reference.listing(file).encode())
+
+
+def real_refusal(tally, path):
+    """A file made by plink2 that document 01 refuses, with the number and place worked out by hand."""
+    refusal, file = path.with_suffix(".refused").read_text().strip(), path.read_bytes()
+    for what in (f"refused {refusal}\n", reference.listing(file)):
+        tally.same(f"listing of real/{path.name}", run("pgenlist", file), what.encode())
+
+
 def real_files(tally):
-    """Files made by plink2 read as plink2 itself exported them."""
+    """All files made by plink2."""
     for path in sorted((HERE / "real").glob("*.pgen")):
-        file = path.read_bytes()
-        samples = reference.header_check(file)[4]
-        rows = path.with_suffix(".categories").read_text().split()
-        data = b"".join(input_bytes(Case(READ, v, 0, file, b"", samples, samples)) for v in range(len(rows)))
-        want = "".join(f"0 0 o {bytes(map(int, row)).hex()} w {bytes(samples).hex()}\n" for row in rows).encode()
-        tally.same(f"real/{path.name}", run("probe", data), want, len(rows))
-        tally.same(f"listing of real/{path.name}", run("pgenlist", file), reference.listing(file).encode())
+        (real_refusal if path.with_suffix(".refused").exists() else real_file)(tally, path)
 
 
 def listings(tally):
