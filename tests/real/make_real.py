@@ -74,12 +74,13 @@ def rows_of(rng, samples, variants):
 
 
 def vcf_of(rows, samples, alts="C", info=lambda variant: ".", form="GT"):
-    """Rows of calls as a VCF file's text."""
+    """Rows of calls as a VCF file's text; the other alleles are the same for all variants, or a list."""
     lines = ["##fileformat=VCFv4.2", '##INFO=<ID=PR,Number=0,Type=Flag,Description="provisional reference allele">', "##contig=<ID=1,length=1000000>",
              '##FORMAT=<ID=GT,Number=1,Type=String,Description="call">', '##FORMAT=<ID=DS,Number=A,Type=Float,Description="dosage">']
     lines.append("\t".join(["#CHROM", "POS", "ID", "REF", "ALT", "QUAL", "FILTER", "INFO", "FORMAT"] + [f"s{i}" for i in range(samples)]))
     for v, row in enumerate(rows):
-        lines.append("\t".join(["1", str(100 + v), f"v{v}", "A", alts, ".", ".", info(v), form] + row))
+        others = alts if isinstance(alts, str) else alts[v]
+        lines.append("\t".join(["1", str(100 + v), f"v{v}", "A", others, ".", ".", info(v), form] + row))
     return "\n".join(lines) + "\n"
 
 
