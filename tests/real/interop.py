@@ -81,6 +81,7 @@ def number_width(page):
              (file[20], file[22:].hex(" "), our_check(file), page.valid("two_ways")), (6, "04 03 00 d5 01 02 03", "0 0", "passes"))
     page.see(2, "the same: samples outside category 2, ours and plink2's", outside,
              [[(3, 0), (216, 0), (218, 0), (221, 0)], [(3, 1), (4, 1), (6, 1), (9, 3)]])
+    page.see(2, "our writer's record of our reading", our_record(ours, 6) == file[22:], True)
     file = page.put("ours256", file_of(256, (4, our_record("1" * 3 + "0" * 253, 4), None)))
     page.see(2, "a list of our writer, N = 256: our check, plink2 --validate, --export", (our_check(file), page.valid("ours256"), page.rows("ours256")),
              ("0 0", "refuses", "refuses"))
@@ -119,6 +120,8 @@ def counted_flips(page):
     page.see(4, "after: plink2 --hardy", page.report("flipped", "--hardy", "hardy")[0][4:7], ["1", "46", "52"])
     page.made("repaired", "--pfile", "flipped")
     page.see(4, "after plink2 --make-pgen: rows, counts", (page.rows("repaired") == [turned], page.counts("repaired")), (True, [counted(turned)]))
+    kept = [page.plink2("--pfile", name, "--maf", "0.25", "--write-snplist", "--out", "kept") == 0 for name in ("unflipped", "flipped", "repaired")]
+    page.see(4, "plink2 --maf 0.25 keeps the variant: before, after, after --make-pgen", kept, [True, False, True])
     page.plink2("--pfile", "flipped", "--make-bed", "--out", "bed")
     page.see(4, "after plink2 --make-bed: counts", page.counts("bed", "--bfile"), [counted(turned)])
     for code, pair, wrong in ((1, "01", True), (2, "02", True), (3, "03", False), (5, "12", True), (6, "13", False), (9, "23", False)):
@@ -228,7 +231,7 @@ def limits(page):
     """10: what is too large, and other files."""
     row = [["0/0"] * 65537]
     file = page.from_calls("n65537", row)
-    page.see(10, "N = 65,537: our listing", run("pgenlist", file).decode(), "refused 4 7\n")
+    page.see(10, "N = 65,537: plink2 reads it; our listing", (page.rows("n65537") == ["0" * 65537], run("pgenlist", file).decode()), (True, "refused 4 7\n"))
     page.plink2("--dummy", 90, 300, "0.05", "--seed", 1, "--make-bed", "--out", "bed")
     page.see(10, ".bed file: our listing", run("pgenlist", (page.folder / "bed.bed").read_bytes()).decode(), "refused 3 2\n")
     file = page.made("large", "--dummy", 90, 5000, "0.05", "--seed", 1)
