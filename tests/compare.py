@@ -1,13 +1,14 @@
 """Compares the built programs with the independent program.
 
-    python3 compare.py                 the committed cases, the real files, the listing, document 01's examples, fresh cases from a new seed
-    python3 compare.py --seed S        the same with the fresh cases of seed S, to run a failure again
+    python3 compare.py                 the committed cases, the real files, the listing, document 01's examples, fresh cases from new seeds for a minute
+    python3 compare.py --seed S        the same with the fresh cases of seed S alone, to run a failure again
     python3 compare.py --minutes N     fresh cases for about N minutes, seed after seed
 
-Prints the seeds it used, and as its last line 'N passed, M failed'.
+Prints the seeds it used (a failure names its own), and as its last line 'N passed, M failed'.
 """
 
 import argparse
+import random
 import subprocess
 import sys
 import time
@@ -15,7 +16,8 @@ from pathlib import Path
 
 import pgen_reference as reference
 from pgen_cases import READ, Case
-from probe_cases import all_cases, input_bytes, line_of, reply_to
+from pgen_limit_cases import limit_cases
+from probe_cases import all_cases, fresh_cases, input_bytes, line_of, reply_to
 from program_laws import check_examples, check_flips
 
 HERE = Path(__file__).resolve().parent
@@ -102,10 +104,16 @@ def listings(tally):
         tally.same(f"listing of {len(data)} bytes", run("pgenlist", data), reference.listing(data).encode())
 
 
+def fresh_limits(tally, seed):
+    """Document 01's "Tested only" cases, with other files for each seed: they are large, so a run makes them once."""
+    cases = list(limit_cases(random.Random(seed)))
+    data, want = joined(cases)
+    tally.same(f"tested only, seed {seed}", run("probe", data), want, len(cases))
+
+
 def fresh(tally, seed):
     """Fresh cases."""
-    print(f"fresh cases, seed {seed}")
-    data, want = joined(all_cases(seed, FRESH_CASES))
+    data, want = joined(fresh_cases(seed, FRESH_CASES))
     tally.same(f"fresh cases of seed {seed}", run("probe", data), want, FRESH_CASES)
     check_flips(tally, run, seed)
 
@@ -132,13 +140,14 @@ def main():
     real_files(tally)
     listings(tally)
     check_examples(tally, run)
-    if words.seed is not None:
-        fresh(tally, words.seed)
-    else:
-        seed, end = time.time_ns() % 10**9, time.monotonic() + 60 * words.minutes
-        while time.monotonic() < end:
-            fresh(tally, seed)
-            seed += 1
+    end = time.monotonic() + 60 * words.minutes
+    first = seed = time.time_ns() % 10**9 if words.seed is None else words.seed
+    print(f"fresh cases from seed {first} on", flush=True)
+    fresh_limits(tally, first)
+    while seed == first or (words.seed is None and time.monotonic() < end):
+        fresh(tally, seed)
+        seed += 1
+    print(f"fresh cases of {seed - first} seeds, {first} to {seed - 1}")
     print(f"{tally.passed} passed, {tally.failed} failed")
     return 1 if tally.failed else 0
 
