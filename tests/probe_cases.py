@@ -111,6 +111,12 @@ def all_cases(seed, count):
     return islice(chain(first, swept, endless), max(count, len(first)))
 
 
+def fresh_cases(seed, count):
+    """Every fault with every call and then random cases: a seed's cases without those named "Tested only"."""
+    rng = random.Random(f"fresh {seed}")
+    return islice(chain(sweep(rng), (random_case(rng) for _ in iter(int, 1))), count)
+
+
 class Summary:
     """How often each call, kind and refusal number occurred."""
 
