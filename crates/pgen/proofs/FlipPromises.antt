@@ -1,8 +1,8 @@
 -- DEMAND 3, of the call itself: what its contract says of a flip that it accepted.
 -- Assumes nothing.
-use mathlib.Core.Path.{_≡_, refl, ap, _∙_, subst}
+use mathlib.Core.Path.{_≡_, refl, sym, ap, _∙_, subst, fun-ext}
 use mathlib.Core.Logic.{inl, inr}
-use mathlib.Core.Bool.{_&&_}
+use mathlib.Core.Bool.{Bool, _&&_}
 use Prim.Native.Nat.{ℕ, _≤_, _<_}
 use mathlib.Core.List.{List, []}
 use lib.ListN.{length}
@@ -14,13 +14,13 @@ use Rattle.format.specs.Category.{exchange-all, just-one}
 use Rattle.format.specs.Body.{Body}
 use Rattle.format.specs.Layout.{Layout}
 use Rattle.format.specs.Header.{read-layout}
-use Rattle.format.specs.File.{File, file-of, read-all, read-file, read-row, flip-file, flip-bytes}
+use Rattle.format.specs.File.{File, layout-of-file, file-of, read-all, read-file, read-row, flip-file, flip-bytes}
 use Rattle.format.specs.Reply.{holds-row, holds-set, checked, refusal-of, given, member, past-last, flip-out, flip-call}
 use Rattle.format.proofs.Rules.{Holds, by-need, by-bind, by-map}
 use Rattle.format.proofs.Refuses.{Refuses, refuses-weaken}
 use Rattle.format.proofs.CallRefusals.{FlipNumber, flip-refusals}
 use Rattle.format.proofs.FileLaws.{IsFile, file-as-written}
-use Rattle.format.proofs.FlipLaws.{flip-accepted, flip-reads, flip-xor, flip-twice}
+use Rattle.format.proofs.FlipLaws.{SameLayout, flip-layout, flip-accepted, flip-reads, flip-xor, flip-twice}
 use Rattle.reader.proofs.Replies.{WasRead}
 
 -- what was accepted is what was read
@@ -72,6 +72,10 @@ module _ (file set work : List ℕ) (y : Bytes file) (q : flip-call 65536 file s
   pub call-accepted : read-file 65536 (flip-call 65536 file set work .file) ≡ ok (flip-file (member set) (done .whole)) []
   call-accepted = ap (read-file 65536) (done .flipped) ∙ flip-accepted 65536 (member set) file (done .whole) (lit< tt) y (done .accepted)
 
+  -- "same lengths and offsets"; 01, Flipping: "The flag bits and every length and offset stay"
+  pub call-layout : SameLayout 65536 (layout-of-file (done .whole)) (layout-of-file (flip-file (member set) (done .whole)))
+  call-layout = flip-layout 65536 (member set) (done .whole)
+
   -- "members read with categories 0 and 2 exchanged, all others as before, even where their stored differences lean on a flipped one"
   pub call-reads : (v : FileVariant) → v .0 < length (done .whole .bodies)
       → read-row 65536 (flip-call 65536 file set work .file) v ≡ map-out (exchange-all (member set v)) (read-row 65536 file v)
@@ -85,6 +89,12 @@ module _ (file set work : List ℕ) (y : Bytes file) (q : flip-call 65536 file s
     pub call-xor : flip-call 65536 (flip-call 65536 file set work .file) second work₂ .file
         ≡ flip-bytes 65536 (λ (v : FileVariant). just-one (member second v) (member set v)) file
     call-xor = again ∙ flip-xor 65536 (member second) (member set) file (lit< tt) y
+
+    -- the same of three calls
+    pub call-just-one : (both work₃ : List ℕ) → ((v : FileVariant) → member both v ≡ just-one (member second v) (member set v))
+        → flip-call 65536 file both work₃ .refusal ≡ 0 → flip-call 65536 (flip-call 65536 file set work .file) second work₂ .file ≡ flip-call 65536 file both work₃ .file
+    call-just-one both work₃ e q₃ =
+        call-xor ∙ ap (λ (m : FileVariant → Bool). flip-bytes 65536 m file) (sym (fun-ext e)) ∙ sym (was-flipped file both work₃ y q₃ .flipped)
 
     -- "so twice restores the file"
     pub call-twice : second ≡ set → flip-call 65536 (flip-call 65536 file set work .file) second work₂ .file ≡ file
