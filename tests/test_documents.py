@@ -32,11 +32,10 @@ class Documents(unittest.TestCase):
                     self.assertTrue(path.exists() or path.with_name(path.name + ".antt").exists(), f"{document.name}: {span}")
 
     def test_edits_are_there(self):
-        crates = {f.name for f in (ROOT / "crates").iterdir()}
+        folders = {f.name for f in ROOT.iterdir() if f.is_dir()}
         for document in DOCUMENTS:
             for span in spans(document):
-                parts = span.split("/")
-                if len(parts) == 2 and parts[0] in crates and re.fullmatch(r"[a-z0-9_]+", parts[1]) and not (ROOT / "crates" / span).exists():
+                if re.fullmatch(r"[a-z]+/[a-z0-9_]+", span) and span.split("/")[0] not in folders:
                     self.assertTrue(span in edits(), f"{document.name}: {span}")
 
     def test_every_edit_is_listed(self):
