@@ -4,3 +4,4 @@ pub mod SizeLaws
 pub mod CallLaws
 pub mod Unique
 pub mod Promises
+pub mod LargestLaws
