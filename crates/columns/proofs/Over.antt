@@ -48,9 +48,9 @@ module _ (bs : List ℕ) (m : ℕ) (b : Blocks) (j : ℕ) (x : BlockVariant) (h 
       let l : j * 65536 < m = block-inside m j h in
       let here : j * 65536 ≡ passed m j = omega arith in
       let next : j * 65536 + count-in m j ≡ passed m (j + 1) = omega arith in
-      let c : count-in m j ≡ block-variants 65536 f j = count-is bs m b f a records g j in
+      let c : count-in m j ≡ block-variants 65536 f j = count-is m f (g .m-is) j in
       let d₁ : x ≡ bad-in-block (block-variant 0) (digits-at (form-of f .type-bits) (drop (block-place 65536 f j) (in-parts 65536 f a records)) 0 (block-variants 65536 f j))
-      = rw (← bits-are bs m b f a records g, ← place-is bs m b f a records g j, ← g .parts, ← c) d in
+      = rw (← bits-are b f (g .b-is), ← place-is b f (g .b-is) j, ← g .parts, ← c) d in
       ap (λ (z : ℕ). bad-type 65536 (file-variant z) (drop z (a .columns .types))) (sym here)
       ∙ rw (← c, next) at (turn-8 65536 j x f a records (g .known) (omega (arith, g .m-is)) d₁)
 

@@ -72,9 +72,9 @@ module _ (bs : List ℕ) (m : ℕ) (b : Blocks) (j x start end : ℕ) (h : j < (
       let l : j * 65536 < m = block-inside m j h in
       let here : passed m j ≡ j * 65536 = omega arith in
       let next : j * 65536 + count-in m j ≡ passed m (j + 1) = omega arith in
-      let c : count-in m j ≡ block-variants 65536 f j = count-is bs m b f a records g j in
+      let c : count-in m j ≡ block-variants 65536 f j = count-is m f (g .m-is) j in
       let e₁ : total ≡ sum (numbers-at (form-of f .length-width) (block-variants 65536 f j) (drop (lengths-place 65536 f j) (in-parts 65536 f a records)))
-      = rw (← width-is bs m b f a records g, ← lengths-place-is bs m b f a records g j, ← g .parts, ← c) e in
+      = rw (← width-is b f (g .b-is), ← lengths-place-is m b f (g .m-is) (g .b-is) j, ← g .parts, ← c) e in
       let n : sum (take (passed m (j + 1)) (a .columns .lengths)) ≡ sum (take (j * 65536) (a .columns .lengths)) + total
       = ap (λ (z : ℕ). sum (take z (a .columns .lengths))) (sym next) ∙ rw (c, e₁) (next-start 65536 j f a records (g .known) (omega (arith, g .m-is))) in
       omega (arith, ap (λ (z : ℕ). sum (take z (a .columns .lengths))) here)

@@ -3,12 +3,15 @@ ghost use mathlib.Core.Path.{_≡_};
 ghost use mathlib.Core.List.{List};
 ghost use Prim.Native.Nat.{ℕ, _+_, _-_, _*_, _/_, _<_, _≤_};
 ghost use Rattle.format.specs.Variant.{file-variant};
+ghost use Rattle.format.specs.Header.{type-place};
 ghost use Rattle.format.specs.Layout.{Fixed, Arrays, sum, header-end};
 ghost use Rattle.format.proofs.RefusalsByIndexRecords.{bad-type, wrong-offset, starts-of};
-ghost use Rattle.blocks.specs.Parts.{count-in, BlocksFit, Arranged};
+ghost use Rattle.blocks.specs.Parts.{blocks-of, BlocksSmall, count-in, BlocksFit, Arranged};
 ghost use Rattle.columns.specs.Ending.{ending};
 use blocks::Blocks;
 use format::FileVariant;
+use format::block_of;
+use format::in_block;
 use format::in_file;
 use numbers::number_at;
 use numbers::sum_lengths;
@@ -25,6 +28,19 @@ pub fn count_in(m: usize, block: usize) -> usize
         return left;
     }
     65536
+}
+
+// 01, Replies: the place of refusal 8, the "byte holding it".
+pub fn type_place(b: Blocks, v: FileVariant) -> usize
+    requires { ⌜ BlocksSmall b × (v .0 < 16777216) ⌝ }
+    ensures { λ r. ⌜ ((f : Fixed) → b ≡ blocks-of f → r ≡ type-place 65536 f v) ⌝ }
+{
+    let at = b.at + block_of(v) * b.full;
+    let i = in_block(v);
+    if b.half {
+        return at + i.0 / 2;
+    }
+    at + i.0
 }
 
 // 01, Replies: 8, "type not allowed". The first variant of the file whose type is not allowed; past the last if there is none.

@@ -7,8 +7,8 @@ use mathlib.Core.Bool.{Bool, true, false}
 use mathlib.Core.List.{List, _++_, append-nil}
 use lib.ListN.{length, getD, take, drop, set, length-drop, drop-of-length-le}
 use lib.Seq.{drop-drop, take-all}
-use lib.Dec.{eqb, leb}
-use borrow.Author.Tests.{le-leb, lt-leb, ne-eqb}
+use lib.Dec.{leb}
+use borrow.Author.Tests.{le-leb, lt-leb}
 use Rattle.format.specs.declared.PairFound.{PairFound}
 use Rattle.format.specs.declared.PairFound.the-variants as known
 use Rattle.format.specs.declared.Pair.{Pair}
@@ -16,7 +16,6 @@ use Rattle.format.specs.Base.{pick, Out, ok, refuse}
 use Rattle.format.specs.Varint.{read-varint}
 use Rattle.format.specs.Difflist.{groups}
 use Rattle.format.specs.PairCode.{found}
-use Rattle.format.specs.Track.{leans}
 use Rattle.format.specs.File.{next-anchor}
 use Rattle.cursor.specs.declared.Cursor.{Cursor}
 use Rattle.cursor.specs.declared.VarintStep.{VarintStep}
@@ -125,17 +124,6 @@ pub kind-list : (N kind : ℕ) (s : List ℕ) → (kind ≡ 0 → ⊥) → (kind
 kind-list N zero s a b = absurd (a refl)
 kind-list N (suc zero) s a b = absurd (b refl)
 kind-list N (suc (suc kind)) s a b = refl
-
-pub leans-3 : (kind : ℕ) → (kind ≡ 2 → ⊥) → eqb kind 3 ≡ leans kind
-leans-3 zero a = refl
-leans-3 (suc zero) a = refl
-leans-3 (suc (suc zero)) a = absurd (a refl)
-leans-3 (suc (suc (suc zero))) a = refl
-leans-3 (suc (suc (suc (suc zero)))) a = refl
-leans-3 (suc (suc (suc (suc (suc zero))))) a = refl
-leans-3 (suc (suc (suc (suc (suc (suc zero)))))) a = refl
-leans-3 (suc (suc (suc (suc (suc (suc (suc zero))))))) a = refl
-leans-3 (suc (suc (suc (suc (suc (suc (suc (suc kind)))))))) a = ne-eqb (suc (suc (suc (suc (suc (suc (suc (suc kind)))))))) 3 (omega arith)
 
 pub body-moves : (N kind : ℕ) (lent member m : Bool) (s later : List ℕ) → m ≡ next-anchor kind lent member → m ≡ true → later ≡ kind-flipped N kind s
     → later ≡ body-flipped N kind lent member s

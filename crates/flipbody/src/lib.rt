@@ -2,12 +2,12 @@
 ghost use mathlib.Core.Path.{_≡_};
 ghost use Prim.Native.Nat.{_+_, _-_, _/_, _≤_};
 ghost use lib.ListN.{length};
-ghost use Rattle.format.specs.Track.{leans};
 ghost use Rattle.format.specs.File.{next-anchor};
 ghost use Rattle.flipbody.specs.Edits.{values-flipped, heads-size, list-flipped, list-flipped-at, bits-turned, list-place, pair-flipped, kind-flipped, body-flipped, flipped-in};
 use cursor::Cursor;
 use cursor::VarintStep;
 use format::PairFound;
+use types::type_leans;
 
 // The values of a list, or of a whole record of kind 0, from p on, if they fit.
 fn flip_values(s: &mut [u8], p: usize, count: usize)
@@ -107,18 +107,11 @@ fn flip_kind(s: &mut [u8], n: usize, kind: u8)
     }
 }
 
-// 01: "Kind 2: a list against the anchor", "Kind 3: as kind 2".
-pub fn is_leaning(kind: u8) -> bool
-    ensures { λ r. ⌜ r ≡ leans kind ⌝ }
-{
-    kind == 2 || kind == 3
-}
-
 // Whether the body is flipped; also whether what the next record leans on is in the set.
 pub fn next_lent(kind: u8, lent: bool, member: bool) -> bool
     ensures { λ r. ⌜ r ≡ next-anchor kind lent member ⌝ }
 {
-    if is_leaning(kind) { lent } else { member }
+    if type_leans(kind) { lent } else { member }
 }
 
 fn flip_part(s: &mut [u8], n: usize, kind: u8, lent: bool, member: bool)

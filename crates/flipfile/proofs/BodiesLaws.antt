@@ -19,7 +19,7 @@ use Rattle.format.specs.Layout.{Fixed, joined}
 use Rattle.format.specs.File.{next-anchor, BodiesFit, flip-bodies}
 use Rattle.flipbody.specs.Edits.{body-flipped, flipped-in}
 use Rattle.flipbody.proofs.BodyLaws.{body-law, body-length}
-use Rattle.flipheader.specs.Reads.{kind-at, size-at}
+use Rattle.extents.specs.Extent.{kind-at, size-at}
 use Rattle.flipfile.specs.Passes.{bodies-flipped}
 
 -- a record in the middle of a file

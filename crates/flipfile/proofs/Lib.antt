@@ -1,7 +1,6 @@
 pub mod PutLaws
 pub mod TypesLaws
 pub mod BodiesLaws
-pub mod FoundLaws
 pub mod FileLaw
 pub mod Ways
 pub mod Turns

@@ -12,11 +12,11 @@ use lib.Dec.{leb}
 use borrow.Author.Tests.{leb-true}
 use Rattle.format.specs.declared.FileVariant.{FileVariant}
 use Rattle.format.specs.Variant.{file-variant, next-variant}
-use Rattle.format.specs.Layout.{Fixed}
+use Rattle.format.specs.Layout.{Fixed, header-end}
 use Rattle.format.specs.File.{next-anchor}
 use Rattle.format.proofs.ByIndex.{type-at}
 use Rattle.flipbody.specs.Edits.{flipped-in}
-use Rattle.flipheader.specs.Reads.{kind-at, size-at, records-at}
+use Rattle.extents.specs.Extent.{kind-at, size-at}
 use Rattle.flipfile.specs.Passes.{bodies-flipped, all-bodies, type-flipped, types-flipped, all-types}
 
 -- one less to do
@@ -30,7 +30,7 @@ pub record Bodies (f : Fixed) (member : FileVariant → Bool) (whole : List ℕ)
   pub same : bodies-flipped 65536 f member (f .variants - v) (file-variant v) start lent file ≡ whole
   pub kept : length file ≡ size
 
-pub bodies-first : (f : Fixed) (member : FileVariant → Bool) (file : List ℕ) (start : ℕ) → start ≡ records-at f file
+pub bodies-first : (f : Fixed) (member : FileVariant → Bool) (file : List ℕ) (start : ℕ) → start ≡ header-end 65536 f
     → Bodies f member (all-bodies 65536 f member file) (length file) file 0 start false
 bodies-first f member file start e = record {
   upto = omega arith;

@@ -13,15 +13,16 @@ use borrow.Author.Tests.{le-leb, lt-leb}
 use Rattle.format.specs.declared.FileVariant.{FileVariant}
 use Rattle.format.specs.Base.{pick}
 use Rattle.format.specs.Category.{just-one}
-use Rattle.format.specs.Packed.{Bits, limit, more}
+use Rattle.format.specs.Packed.{Bits, four, eight, limit, more}
 use Rattle.format.specs.Layout.{form-of}
 use Rattle.format.specs.Header.{type-place}
 use Rattle.format.proofs.Rules.{split}
 use Rattle.format.proofs.PackedLaws.{limit-positive}
 use Rattle.format.proofs.ByIndex.{type-at}
-use Rattle.flipheader.specs.declared.Header.{Header}
-use Rattle.flipheader.specs.Reads.{fixed}
-use Rattle.flipheader.proofs.Ways.{bits-four, bits-eight}
+use Rattle.blocks.specs.declared.Fields.{Fields}
+use Rattle.blocks.specs.declared.Blocks.{Blocks}
+use Rattle.blocks.specs.Parts.{fixed, blocks-of}
+use Rattle.columns.proofs.Arrangement.{bits-are}
 use Rattle.flipfile.specs.Passes.{digit-put, type-put, flipped-type, touched, type-flipped}
 use Rattle.flipfile.proofs.TypesLaws.{types-hold-8}
 
@@ -63,63 +64,59 @@ flipped-below m q lent own (suc (suc (suc (suc (suc (suc zero)))))) l = pick-sma
 flipped-below m q lent own (suc (suc (suc (suc (suc (suc (suc kind))))))) l = l
 
 -- it has room where the type had
-pub flipped-small : (h : Header) (lent own : Bool) (kind x : ℕ) → kind < limit (form-of (fixed h) .type-bits) → x ≡ flipped-type lent own kind
-    → x < limit (form-of (fixed h) .type-bits)
-flipped-small h lent own kind x l e =
-    subst (λ (y : ℕ). y < limit (form-of (fixed h) .type-bits)) (sym e) (flipped-below (limit (form-of (fixed h) .type-bits)) (types-hold-8 (fixed h)) lent own kind l)
+pub flipped-small : (f : Fields) (lent own : Bool) (kind x : ℕ) → kind < limit (form-of (fixed f) .type-bits) → x ≡ flipped-type lent own kind
+    → x < limit (form-of (fixed f) .type-bits)
+flipped-small f lent own kind x l e =
+    subst (λ (y : ℕ). y < limit (form-of (fixed f) .type-bits)) (sym e) (flipped-below (limit (form-of (fixed f) .type-bits)) (types-hold-8 (fixed f)) lent own kind l)
 
 -- a type that was read has room
-pub read-small : (h : Header) (bs : List ℕ) (v : FileVariant) (kind : ℕ) → kind ≡ type-at 65536 (fixed h) bs v → kind < limit (form-of (fixed h) .type-bits)
+pub read-small : (f : Fields) (bs : List ℕ) (v : FileVariant) (kind : ℕ) → kind ≡ type-at 65536 (fixed f) bs v → kind < limit (form-of (fixed f) .type-bits)
 unfolding type-at
-read-small h bs v kind e = subst (λ (y : ℕ). y < limit (form-of (fixed h) .type-bits)) (sym e) (mod-lt _ (limit-positive (form-of (fixed h) .type-bits)))
+read-small f bs v kind e = subst (λ (y : ℕ). y < limit (form-of (fixed f) .type-bits)) (sym e) (mod-lt _ (limit-positive (form-of (fixed f) .type-bits)))
 
 -- ---- one type in its byte
 
 abbrev in-byte : Bits → ℕ → ℕ → ℕ → ℕ
 in-byte bits i x b = digit-put (limit bits) (i % suc (more bits)) x b
 
-module _ (h : Header) (b i x : ℕ) where
-  pub small-four : h .form % 16 < 4 → x < limit (form-of (fixed h) .type-bits) → x < 16
-  small-four l k = subst (λ (y : Bits). x < limit y) (bits-four h l) k
+module _ (byte : ℕ) (half : Bool) (i x : ℕ) where
+  pub small-four : half ≡ true → x < limit (pick half four eight) → x < 16
+  small-four t l = simp t at l
 
-  pub with-even : h .form % 16 < 4 → i % 2 ≡ 0 → b / 16 * 16 + x ≡ in-byte (form-of (fixed h) .type-bits) i x b
-  with-even l e = ap (λ (j : ℕ). digit-put 16 j x b) (sym e) ∙ ap (λ (y : Bits). in-byte y i x b) (sym (bits-four h l))
+  pub with-even : half ≡ true → i % 2 ≡ 0 → byte / 16 * 16 + x ≡ in-byte (pick half four eight) i x byte
+  with-even t e = rw (t, e) refl
 
-  pub with-odd : h .form % 16 < 4 → (i % 2 ≡ 0 → ⊥) → b < 256 → x * 16 + b % 16 ≡ in-byte (form-of (fixed h) .type-bits) i x b
-  with-odd l e k =
-      (let z : x * 16 + b % 16 ≡ (b / 16 / 16 * 16 + x) * 16 + b % 16 = omega arith in z)
-      ∙ ap (λ (j : ℕ). digit-put 16 j x b) (let z : 1 ≡ i % 2 = omega arith in z)
-      ∙ ap (λ (y : Bits). in-byte y i x b) (sym (bits-four h l))
+  pub with-odd : half ≡ true → (i % 2 ≡ 0 → ⊥) → byte < 256 → x * 16 + byte % 16 ≡ in-byte (pick half four eight) i x byte
+  with-odd t e k = let z : i % 2 ≡ 1 = omega arith in rw (t, z) (omega arith)
 
-  pub with-whole : 4 ≤ h .form % 16 → b < 256 → x ≡ in-byte (form-of (fixed h) .type-bits) i x b
-  with-whole l k =
-      (let z : x ≡ b / 256 * 256 + x = omega arith in z)
-      ∙ ap (λ (j : ℕ). digit-put 256 j x b) (let z : 0 ≡ i % 1 = omega arith in z)
-      ∙ ap (λ (y : Bits). in-byte y i x b) (sym (bits-eight h l))
+  pub with-whole : half ≡ false → byte < 256 → x ≡ in-byte (pick half four eight) i x byte
+  with-whole t k = let z : i % 1 ≡ 0 = omega arith in rw (t, z) (omega arith)
 
 -- ---- one type in the file
 
-module _ (h : Header) (bs : List ℕ) (v : FileVariant) (x place : ℕ) (p : place ≡ type-place 65536 (fixed h) v) where
-  pub put-inside : (i y : ℕ) → i ≡ v .0 % 65536 → y ≡ in-byte (form-of (fixed h) .type-bits) i x (getD bs place 0) → set bs place y ≡ type-put 65536 (fixed h) v x bs
-  unfolding type-put
-  put-inside i y q e =
-      ap (set bs place) (e ∙ ap (λ (j : ℕ). in-byte (form-of (fixed h) .type-bits) j x (getD bs place 0)) q)
-      ∙ ap (λ (j : ℕ). set bs j (in-byte (form-of (fixed h) .type-bits) (v .0 % 65536) x (getD bs j 0))) p
+-- there is room for it
+pub room : (f : Fields) (b : Blocks) → b ≡ blocks-of (fixed f) → (x : ℕ) → x < limit (form-of (fixed f) .type-bits) → x < limit (pick (b .half) four eight)
+room f b d x l = rw (bits-are b (fixed f) d) l
 
-  pub put-outside : length bs ≤ place → bs ≡ type-put 65536 (fixed h) v x bs
+module _ (f : Fields) (b : Blocks) (d : b ≡ blocks-of (fixed f)) (bs : List ℕ) (v : FileVariant) (x place : ℕ) (p : place ≡ type-place 65536 (fixed f) v) where
+  pub put-inside : (i y : ℕ) → i ≡ v .0 % 65536 → y ≡ in-byte (pick (b .half) four eight) i x (getD bs place 0) → set bs place y ≡ type-put 65536 (fixed f) v x bs
   unfolding type-put
-  put-outside l = sym (set-out bs (type-place 65536 (fixed h) v) _ (subst (λ (j : ℕ). length bs ≤ j) p l))
+  put-inside i y q e = rw (e, q, bits-are b (fixed f) d, p) refl
+
+  pub put-outside : length bs ≤ place → bs ≡ type-put 65536 (fixed f) v x bs
+  unfolding type-put
+  put-outside l = sym (set-out bs (type-place 65536 (fixed f) v) _ (subst (λ (j : ℕ). length bs ≤ j) p l))
 
 -- ---- written where it is touched
 
-module _ (h : Header) (v : FileVariant) (lent own : Bool) (kind : ℕ) (bs : List ℕ) (t : Bool) (e : t ≡ touched lent own kind) where
-  pub type-written : t ≡ true → (x : ℕ) (later : List ℕ) → x ≡ flipped-type lent own kind → later ≡ type-put 65536 (fixed h) v x bs
-      → later ≡ type-flipped 65536 (fixed h) v lent own kind bs
+module _ (f : Fields) (v : FileVariant) (lent own : Bool) (kind : ℕ) (bs : List ℕ) (t : Bool) (e : t ≡ touched lent own kind) where
+  pub type-written : t ≡ true → (x : ℕ) (later : List ℕ) → x ≡ flipped-type lent own kind → later ≡ type-put 65536 (fixed f) v x bs
+      → later ≡ type-flipped 65536 (fixed f) v lent own kind bs
   unfolding type-flipped
   type-written w x later q r =
-      r ∙ ap (λ (y : ℕ). type-put 65536 (fixed h) v y bs) q
-      ∙ sym (ap (λ (b : Bool). pick b (type-put 65536 (fixed h) v (flipped-type lent own kind) bs) bs) (sym e ∙ w))
+      r ∙ ap (λ (y : ℕ). type-put 65536 (fixed f) v y bs) q
+      ∙ sym (ap (λ (b : Bool). pick b (type-put 65536 (fixed f) v (flipped-type lent own kind) bs) bs) (sym e ∙ w))
 
-  pub type-left : t ≡ false → bs ≡ type-flipped 65536 (fixed h) v lent own kind bs
+  pub type-left : t ≡ false → bs ≡ type-flipped 65536 (fixed f) v lent own kind bs
   unfolding type-flipped
-  type-left w = sym (ap (λ (b : Bool). pick b (type-put 65536 (fixed h) v (flipped-type lent own kind) bs) bs) (sym e ∙ w))
+  type-left w = sym (ap (λ (b : Bool). pick b (type-put 65536 (fixed f) v (flipped-type lent own kind) bs) bs) (sym e ∙ w))

@@ -12,12 +12,12 @@ use Rattle.format.specs.Category.{just-one}
 use Rattle.format.specs.Packed.{limit, more}
 use Rattle.format.specs.Track.{leans}
 use Rattle.format.specs.Variant.{file-variant, next-variant, in-block}
-use Rattle.format.specs.Layout.{Fixed, plain-mode, form-of}
+use Rattle.format.specs.Layout.{Fixed, plain-mode, form-of, header-end}
 use Rattle.format.specs.Header.{type-place}
 use Rattle.format.specs.File.{next-anchor}
 use Rattle.format.proofs.ByIndex.{type-at}
 use Rattle.flipbody.specs.Edits.{flipped-in}
-use Rattle.flipheader.specs.Reads.{fixed, header-at, kind-at, size-at, records-at}
+use Rattle.extents.specs.Extent.{kind-at, size-at}
 
 -- ---- the bodies
 
@@ -30,8 +30,9 @@ bodies-flipped K f member (suc left) v start lent bs =
     (flipped-in start (start + size-at K f bs v) (f .samples) (kind-at K f bs v) lent (member v) bs))
     bs
 
+-- the first record starts at the header's end
 abbrev pub all-bodies : ℕ → Fixed → (FileVariant → Bool) → List ℕ → List ℕ
-all-bodies K f member bs = bodies-flipped K f member (f .variants) (file-variant 0) (records-at f bs) false bs
+all-bodies K f member bs = bodies-flipped K f member (f .variants) (file-variant 0) (header-end K f) false bs
 
 -- ---- the types
 
@@ -80,6 +81,3 @@ types-after K f member bs = pick (plain-mode f) bs (all-types K f member bs)
 
 abbrev pub passes : ℕ → Fixed → (FileVariant → Bool) → List ℕ → List ℕ
 passes K f member bs = types-after K f member (all-bodies K f member bs)
-
-unfoldable pub flipped-in-place : ℕ → (FileVariant → Bool) → List ℕ → List ℕ
-flipped-in-place K member bs = passes K (fixed (header-at bs)) member bs

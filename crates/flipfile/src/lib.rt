@@ -1,26 +1,39 @@
 // The flip of a set of variants in the file's own bytes. 01, Flipping: "The flag bits and every length and offset stay. Only types and record bodies
 // may differ." Two passes over the variants, with no memory but a few numbers: the bodies, with the types as they were; then the types.
 ghost use mathlib.Core.Path.{_≡_};
+ghost use mathlib.Core.Bool.{false};
 ghost use Prim.Native.Nat.{suc, _+_, _%_, _≤_, _<_};
 ghost use lib.ListN.{length};
 ghost use lib.Dec.{leb};
 ghost use Rattle.format.specs.Base.{pick};
 ghost use Rattle.format.specs.Category.{just-one};
-ghost use Rattle.format.specs.Packed.{limit, more};
-ghost use Rattle.format.specs.Layout.{form-of};
+ghost use Rattle.format.specs.Packed.{four, eight, limit, more};
+ghost use Rattle.format.specs.Layout.{plain-mode, form-of};
 ghost use Rattle.format.specs.File.{flip-bytes};
 ghost use Rattle.format.specs.Reply.{member};
-ghost use Rattle.flipheader.specs.Reads.{fixed};
+ghost use Rattle.blocks.specs.Parts.{fixed};
 ghost use Rattle.flipfile.specs.Passes.{all-bodies, all-types, digit-put, type-put, flipped-type, touched, type-flipped};
 ghost use Rattle.flipfile.specs.Accepted.{Accepted};
-use flipheader::Header;
+use blocks::Fields;
+use blocks::blocks_of;
+use blocks::fields_at;
+use blocks::header_end;
+use columns::type_place;
+use extents::byte_at;
+use extents::kind_of;
+use extents::size_of;
+use extents::type_of;
+use flipbody::flip_body;
+use flipbody::next_lent;
 use format::FileVariant;
+use format::in_block;
+use types::type_leans;
 
 // 01, Flipping: "The set has bit v for variant v."
 fn is_member(set: &[u8], v: FileVariant) -> bool
     ensures { λ r. ⌜ r ≡ member (now (set .entry)) v ⌝ }
 {
-    let b = flipheader::byte_at(set, v.0 / 8);
+    let b = byte_at(set, v.0 / 8);
     (b >> (v.0 % 8)) % 2 == 1
 }
 
@@ -35,25 +48,25 @@ fn fits(start: usize, size: usize, length: usize) -> bool
 }
 
 // All bodies, in variant order. 01, Errors: "Flipping an anchor and leaving the records that lean on it."
-fn flip_bodies(file: &mut [u8], set: &[u8], h: Header)
-    requires { ⌜ (h .variants ≤ 16777216) × (h .samples ≤ 65536) ⌝ }
-    ensures { λ r. ⌜ now (file .exit) ≡ all-bodies 65536 (fixed h) (member (now (set .entry))) (now (file .entry)) ⌝ }
+fn flip_bodies(file: &mut [u8], set: &[u8], f: Fields)
+    requires { ⌜ (f .variants ≤ 16777216) × (f .samples ≤ 65536) ⌝ }
+    ensures { λ r. ⌜ now (file .exit) ≡ all-bodies 65536 (fixed f) (member (now (set .entry))) (now (file .entry)) ⌝ }
 {
-    let m = h.variants;
-    let n = h.samples;
+    let m = f.variants;
+    let n = f.samples;
     let mut v = 0;
-    let mut start = flipheader::start_of_records(&file[..], h);
+    let mut start = header_end(f);
     let mut lent = false;
     while v < m {
-        let kind = flipheader::kind_of(&file[..], h, FileVariant(v));
-        let size = flipheader::size_of(&file[..], h, FileVariant(v));
+        let kind = kind_of(&file[..], f, FileVariant(v));
+        let size = size_of(&file[..], f, FileVariant(v));
         if !fits(start, size, file.len()) {
             return;
         }
         let end = start + size;
         let own = is_member(set, FileVariant(v));
-        flipbody::flip_body(file, start, end, n, kind, lent, own);
-        lent = flipbody::next_lent(kind, lent, own);
+        flip_body(file, start, end, n, kind, lent, own);
+        lent = next_lent(kind, lent, own);
         start = end;
         v = v + 1;
     }
@@ -90,64 +103,59 @@ fn is_touched(lent: bool, own: bool, kind: u8) -> bool
     if own {
         return true;
     }
-    if flipbody::is_leaning(kind) {
-        lent
-    } else {
-        false
-    }
+    if type_leans(kind) { lent } else { false }
 }
 
-// 01, The header: "its packed types (low nibble first)": the byte b that holds type i of a block, with x for that type.
-fn with_type(b: u8, h: Header, i: usize, x: u8) -> u8
-    requires { ⌜ x < limit (form-of (fixed h) .type-bits) ⌝ }
-    ensures { λ r. ⌜ r ≡ digit-put (limit (form-of (fixed h) .type-bits)) (i % suc (more (form-of (fixed h) .type-bits))) x b ⌝ }
+// 01, The header: "its packed types (low nibble first)": the byte that holds type i of a block, with x for that type; `half`: types of 4 bits, else of 8.
+fn with_type(byte: u8, half: bool, i: usize, x: u8) -> u8
+    requires { ⌜ x < limit (pick half four eight) ⌝ }
+    ensures { λ r. ⌜ r ≡ digit-put (limit (pick half four eight)) (i % suc (more (pick half four eight))) x byte ⌝ }
 {
-    if h.form % 16 < 4 {
+    if half {
         if i % 2 == 0 {
-            b / 16 * 16 + x
-        } else {
-            x * 16 + b % 16
+            return byte / 16 * 16 + x;
         }
-    } else {
-        x
+        return x * 16 + byte % 16;
     }
+    x
 }
 
-fn put_type(file: &mut [u8], h: Header, v: FileVariant, x: u8)
-    requires { ⌜ (h .variants ≤ 16777216) × (v .0 < h .variants) × (x < limit (form-of (fixed h) .type-bits)) ⌝ }
-    ensures { λ r. ⌜ now (file .exit) ≡ type-put 65536 (fixed h) v x (now (file .entry)) ⌝ }
+fn put_type(file: &mut [u8], f: Fields, v: FileVariant, x: u8)
+    requires { ⌜ (f .variants ≤ 16777216) × (v .0 < f .variants) × (plain-mode (fixed f) ≡ false) × (x < limit (form-of (fixed f) .type-bits)) ⌝ }
+    ensures { λ r. ⌜ now (file .exit) ≡ type-put 65536 (fixed f) v x (now (file .entry)) ⌝ }
 {
-    let place = flipheader::place_of_type(h, v);
-    let i = format::in_block(v);
+    let b = blocks_of(f);
+    let place = type_place(b, v);
+    let i = in_block(v);
     if place < file.len() {
-        let b = file[place];
-        file[place] = with_type(b, h, i.0, x);
+        let byte = file[place];
+        file[place] = with_type(byte, b.half, i.0, x);
     }
 }
 
-fn flip_type(file: &mut [u8], h: Header, v: FileVariant, lent: bool, own: bool, kind: u8)
-    requires { ⌜ (h .variants ≤ 16777216) × (v .0 < h .variants) × (kind < limit (form-of (fixed h) .type-bits)) ⌝ }
-    ensures { λ r. ⌜ now (file .exit) ≡ type-flipped 65536 (fixed h) v lent own kind (now (file .entry)) ⌝ }
+fn flip_type(file: &mut [u8], f: Fields, v: FileVariant, lent: bool, own: bool, kind: u8)
+    requires { ⌜ (f .variants ≤ 16777216) × (v .0 < f .variants) × (plain-mode (fixed f) ≡ false) × (kind < limit (form-of (fixed f) .type-bits)) ⌝ }
+    ensures { λ r. ⌜ now (file .exit) ≡ type-flipped 65536 (fixed f) v lent own kind (now (file .entry)) ⌝ }
 {
     if is_touched(lent, own, kind) {
         let x = flip_of_type(lent, own, kind);
-        put_type(file, h, v, x);
+        put_type(file, f, v, x);
     }
 }
 
 // All types, in variant order.
-fn flip_types(file: &mut [u8], set: &[u8], h: Header)
-    requires { ⌜ h .variants ≤ 16777216 ⌝ }
-    ensures { λ r. ⌜ now (file .exit) ≡ all-types 65536 (fixed h) (member (now (set .entry))) (now (file .entry)) ⌝ }
+fn flip_types(file: &mut [u8], set: &[u8], f: Fields)
+    requires { ⌜ (f .variants ≤ 16777216) × (plain-mode (fixed f) ≡ false) ⌝ }
+    ensures { λ r. ⌜ now (file .exit) ≡ all-types 65536 (fixed f) (member (now (set .entry))) (now (file .entry)) ⌝ }
 {
-    let m = h.variants;
+    let m = f.variants;
     let mut v = 0;
     let mut lent = false;
     while v < m {
-        let kind = flipheader::type_of(&file[..], h, FileVariant(v));
+        let kind = type_of(&file[..], f, FileVariant(v));
         let own = is_member(set, FileVariant(v));
-        flip_type(file, h, FileVariant(v), lent, own, kind);
-        lent = flipbody::next_lent(kind, lent, own);
+        flip_type(file, f, FileVariant(v), lent, own, kind);
+        lent = next_lent(kind, lent, own);
         v += 1;
     }
 }
@@ -157,10 +165,10 @@ pub fn flip_accepted(file: &mut [u8], set: &[u8])
     requires { ⌜ Accepted 65536 (now file) ⌝ }
     ensures { λ r. ⌜ now (file .exit) ≡ flip-bytes 65536 (member (now (set .entry))) (now (file .entry)) ⌝ }
 {
-    let h = flipheader::header_of(&file[..]);
-    flip_bodies(file, set, h);
-    if h.mode == 2 {
+    let f = fields_at(&file[..]);
+    flip_bodies(file, set, f);
+    if f.mode == 0x02 {
         return;
     }
-    flip_types(file, set, h);
+    flip_types(file, set, f);
 }

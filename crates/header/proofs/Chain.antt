@@ -2,7 +2,6 @@
 -- Assumes nothing.
 use mathlib.Core.Path.{_≡_, refl, sym, ap, _∙_}
 use Prim.Native.Nat.{ℕ, _+_, _-_, _*_, _/_, _≤_, _<_}
-use native.Mathlib.Nat.{zero-mul, div-one}
 use mathlib.Core.Bool.{Bool, true, false}
 use mathlib.Core.List.{List, []}
 use lib.ListN.{length, drop}
@@ -10,12 +9,11 @@ use lib.Dec.{ltb, lit<}
 use native.Mathlib.Omega.{arith}
 use borrow.Author.Tests.{lt-ltb, le-ltb, ltb-true, ltb-false}
 use Rattle.format.specs.declared.FileVariant.{FileVariant}
-use Rattle.format.specs.declared.BlockVariant.{BlockVariant}
 use Rattle.format.specs.declared.HeaderReply.the-variants.{Accepted, Refused}
 use Rattle.format.specs.Base.{pick, ok, refuse}
-use Rattle.format.specs.Variant.{file-variant, block-of, in-block}
-use Rattle.format.specs.Layout.{Fixed, plain-mode, form-of, Arrays, sum, block-count, block-size, header-end}
-use Rattle.format.specs.Header.{block-place, type-place}
+use Rattle.format.specs.Variant.{file-variant}
+use Rattle.format.specs.Layout.{Fixed, plain-mode, Arrays, sum, block-count, block-size, header-end}
+use Rattle.format.specs.Header.{type-place}
 use Rattle.format.specs.Reply.{Summary, summary, header-left}
 use Rattle.format.proofs.BlocksLaws.{block-count-is}
 use Rattle.format.proofs.ByIndex.{block-variants}
@@ -30,32 +28,13 @@ use Rattle.blocks.specs.Parts.{fixed, blocks-of, form-in, BlocksSmall, count-in
 use Rattle.columns.specs.declared.Ends.{Ends}
 use Rattle.columns.specs.declared.Ends.the-variants.{WrongOffset, RecordsEnd}
 use Rattle.columns.specs.Ending.{ending}
+use Rattle.columns.proofs.Arrangement.{place-is}
 use Rattle.header.specs.Ready.{Held, Placed}
 use Rattle.header.specs.declared.Found.{Found}
 use Rattle.header.specs.declared.Found.the-variants.{Nothing, Refusal}
 use Rattle.header.specs.Finding.{earlier-of, found-then, UnusedFound}
 use Rattle.header.proofs.Handed.{Ranges, ranges, refused, seven, beyond-7, nine-end, accepts}
 use Rattle.header.proofs.BlockedLaws.{blocks-fit, last-unused}
-
--- ---- the place of a type
-
-place-from : (f : Fixed) (j : ℕ) → blocks-of f .at + j * blocks-of f .full ≡ block-place 65536 f j
-unfolding block-place
-place-from f j = omega (arith, zero-mul (block-size (form-of f) 65536))
-
-pub half-place : (b : Blocks) (v : FileVariant) (block : ℕ) (i : BlockVariant) → b .half ≡ true → block ≡ block-of 65536 v → i ≡ in-block 65536 v
-    → (f : Fixed) → b ≡ blocks-of f → b .at + block * b .full + i .0 / 2 ≡ type-place 65536 f v
-unfolding type-place
-half-place b v block i h d k f e =
-    let t : blocks-of f .half ≡ true = rw e at h in
-    rw (e, d, k, place-from f (block-of 65536 v), t) refl
-
-pub whole-place : (b : Blocks) (v : FileVariant) (block : ℕ) (i : BlockVariant) → b .half ≡ false → block ≡ block-of 65536 v → i ≡ in-block 65536 v
-    → (f : Fixed) → b ≡ blocks-of f → b .at + block * b .full + i .0 ≡ type-place 65536 f v
-unfolding type-place
-whole-place b v block i h d k f e =
-    let t : blocks-of f .half ≡ false = rw e at h in
-    rw (e, d, k, place-from f (block-of 65536 v), t, div-one) refl
 
 -- ---- 7
 
@@ -80,7 +59,7 @@ module _ (bs : List ℕ) (f : Fields) (b : Blocks) (end : ℕ) (c : Placed bs f 
     unfolding block-variants
     all-unused =
         let g : Ranges f = ranges bs f (c .held .ready) in
-        rw (d, c .b-is, place-from (fixed f) ((f .variants - 1) / 65536)) at u
+        rw (d, c .b-is, place-is (blocks-of (fixed f)) (fixed f) refl ((f .variants - 1) / 65536)) at u
         ∙ sym (last-unused (fixed f) bs (c .blocked) (g .variants-least) (g .variants-most) (c .held .ready .bytes) (rw (← c .held .end-is) (c .held .fits)))
 
     pub clears : r ≡ Clear → UnusedFound bs f Nothing

@@ -4,13 +4,12 @@ ghost use mathlib.Core.List.{[]};
 ghost use Prim.Native.Nat.{_≤_, _<_};
 ghost use Rattle.format.specs.Base.{ok};
 ghost use lib.ListN.{length};
-ghost use Rattle.format.specs.Header.{type-place};
-ghost use Rattle.format.specs.Layout.{Fixed, Arrays, mode-covered, from-1-to, form-allowed};
+ghost use Rattle.format.specs.Layout.{Arrays, mode-covered, from-1-to, form-allowed};
 ghost use Rattle.format.specs.Reply.{summary, header-left, header-call};
 ghost use Rattle.format.proofs.RefusalsByIndex.{fixed-at, after-fixed};
 ghost use Rattle.format.proofs.RefusalsByIndexArrays.{unused-arrays, Passed};
 ghost use Rattle.format.proofs.RefusalsByIndexRecords.{after-types};
-ghost use Rattle.blocks.specs.Parts.{fixed, fields-of, blocks-of, BlocksSmall};
+ghost use Rattle.blocks.specs.Parts.{fixed, fields-of};
 ghost use Rattle.header.specs.Ready.{Ready, Held, Placed};
 ghost use Rattle.header.specs.Finding.{earlier-of, found-then, UnusedFound};
 use blocks::Blocks;
@@ -25,10 +24,8 @@ use columns::Ends;
 use columns::bad_type;
 use columns::count_in;
 use columns::records_end;
-use format::FileVariant;
+use columns::type_place;
 use format::HeaderReply;
-use format::block_of;
-use format::in_block;
 use numbers::number_at;
 
 // 01, What the software covers: "storage modes 0x02 and 0x10"
@@ -85,19 +82,6 @@ fn check_plain(file: &[u8], f: Fields, end: usize) -> HeaderReply
         samples: f.samples,
         form: f.form,
     }
-}
-
-// 01, Replies: the place of refusal 8, the "byte holding it".
-fn type_place(b: Blocks, v: FileVariant) -> usize
-    requires { ⌜ BlocksSmall b × (v .0 < 16777216) ⌝ }
-    ensures { λ r. ⌜ ((f : Fixed) → b ≡ blocks-of f → r ≡ type-place 65536 f v) ⌝ }
-{
-    let at = b.at + block_of(v) * b.full;
-    let i = in_block(v);
-    if b.half {
-        return at + i.0 / 2;
-    }
-    at + i.0
 }
 
 // 9, "block offset wrong, or records don't end at the file's end", in mode 0x10.

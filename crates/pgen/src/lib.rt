@@ -4,8 +4,8 @@ ghost use Rattle.format.specs.Reply.{header-left, header-call, check-left, chec
 ghost use Rattle.format.specs.declared.Reply.the-variants as done;
 ghost use Rattle.format.specs.declared.LookupReply.the-variants as none;
 ghost use Rattle.pgen.specs.Viewed.{viewed};
+use extents::byte_at;
 use flipfile::flip_accepted;
-use flipheader::byte_at;
 use format::FileVariant;
 use format::HeaderReply;
 use format::LookupReply;

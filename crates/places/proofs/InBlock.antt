@@ -100,8 +100,8 @@ module _ (bs : List ℕ) (v : FileVariant) (h : HasVariant bs v) (y : Bytes bs) 
         ∙ layout-type-at 65536 l (lit< tt) (obeys bs v h y) is-blocked v (h .below) in
         k ∙ rw (
           getD-drop,
-          place-is bs (f .variants) b (fixed-of l) (arrays-of 65536 l) (joined (l .bodies)) arranged block,
-          bits-are bs (f .variants) b (fixed-of l) (arrays-of 65536 l) (joined (l .bodies)) arranged,
+          place-is b (fixed-of l) (arranged .b-is) block,
+          bits-are b (fixed-of l) (arranged .b-is),
           p,
           q,
         ) t
@@ -110,10 +110,10 @@ module _ (bs : List ℕ) (v : FileVariant) (h : HasVariant bs v) (y : Bytes bs) 
       at-lengths : b .at + block * b .full + size ≡ lengths-place 65536 (fixed-of (h .layout)) (block-of 65536 v)
       at-lengths =
           let l : Layout = h .layout in
-          rw (s, r, ← p) (lengths-place-is bs (f .variants) b (fixed-of l) (arrays-of 65536 l) (joined (l .bodies)) arranged block)
+          rw (s, r, ← p) (lengths-place-is (f .variants) b (fixed-of l) (arranged .m-is) (arranged .b-is) block)
 
       width : b .width ≡ form-of (fixed-of (h .layout)) .length-width
-      width = width-is bs (f .variants) b (fixed-of (h .layout)) (arrays-of 65536 (h .layout)) (joined (h .layout .bodies)) arranged
+      width = width-is b (fixed-of (h .layout)) (arranged .b-is)
 
       -- its start
       pub start-is : (offset before : ℕ) → offset ≡ number-at 8 (drop (12 + 8 * block) bs)
@@ -199,5 +199,5 @@ module _ (bs : List ℕ) (v : FileVariant) (h : HasVariant bs v) (y : Bytes bs) 
         let t : anchor-at 65536 (fixed-of m) bs v ≡ anchor 65536 (m .types) v
         = ap (λ (w : List ℕ). anchor-at 65536 (fixed-of m) w v) (written bs v h y) ∙ layout-anchor-at 65536 v m (lit< tt) (obeys bs v h y) is-blocked (h .below) in
         z
-        ∙ rw (k, place-is bs (f .variants) b (fixed-of m) (arrays-of 65536 m) (joined (m .bodies)) arranged block, bits-are bs (f .variants) b (fixed-of m) (arrays-of 65536 m) (joined (m .bodies)) arranged, p, q) t
+        ∙ rw (k, place-is b (fixed-of m) (arranged .b-is) block, bits-are b (fixed-of m) (arranged .b-is), p, q) t
         ∙ ap (λ (w : Layout). anchor 65536 (w .types) v) (one-layout bs m l (h .accepted) a)

@@ -35,12 +35,12 @@ use Rattle.places.proofs.AcceptedLaws.{same-place, record-ends}
 use Rattle.places.proofs.FromReply.{part-is}
 use Rattle.record.specs.Recorded.{replied, recorded}
 
-both : (a b : Bool) → a && b ≡ true → (a ≡ true) × (b ≡ true)
+pub both : (a b : Bool) → a && b ≡ true → (a ≡ true) × (b ≡ true)
 both true b h = (refl, h)
 both false b h = never-both h refl
 
 -- a type that the header lets through
-allowed : (i : BlockVariant) (type : ℕ) → type-allowed i type ≡ true → (type < 8) × (type ≡ 5 → ⊥)
+pub allowed : (i : BlockVariant) (type : ℕ) → type-allowed i type ≡ true → (type < 8) × (type ≡ 5 → ⊥)
 allowed i type h =
     let p = both (ltb type 8) (not (eqb type 5) && not (eqb (i .0) 0 && leans type)) h in
     let q = both (not (eqb type 5)) (not (eqb (i .0) 0 && leans type)) (p .1) in

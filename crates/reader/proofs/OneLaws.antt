@@ -30,10 +30,11 @@ use Rattle.reader.proofs.Cut.{obeys, body-is-bytes, recorded-is}
 use Rattle.reader.proofs.Replies.{row-of, reply-of, refusal}
 
 -- a record that is read, not only checked
-read-too : (b : Bool) (N : ℕ) (row : List ℕ) (m : Out Body) → replied (b && false) N row m ≡ row-left N row (map-out (body-categories N (take N row)) m)
+pub read-too : (b : Bool) (N : ℕ) (row : List ℕ) (m : Out Body) → replied (b && false) N row m ≡ row-left N row (map-out (body-categories N (take N row)) m)
 read-too true N row (ok body left) = refl
 read-too false N row (ok body left) = refl
-read-too b N row (refuse number place) = refl
+read-too true N row (refuse number place) = refl
+read-too false N row (refuse number place) = refl
 
 -- what stands behind the first N bytes is all that counts of a row
 same-rest : (N : ℕ) (row row₁ : List ℕ) (m : Out (List ℕ)) → drop N row₁ ≡ drop N row → row-left N row₁ m ≡ row-left N row m

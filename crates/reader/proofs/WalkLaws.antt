@@ -5,10 +5,11 @@ use mathlib.Core.Bool.{Bool, true, false, _&&_}
 use Prim.Native.Nat.{ℕ, zero, suc, _+_, _≤_, _<_}
 use native.Mathlib.Nat.{add-zero}
 use mathlib.Core.List.{List, [], _++_}
-use lib.ListN.{length, take, drop, replicate}
+use lib.ListN.{length, take, drop, replicate, length-replicate}
+use lib.Seq.{drop-at}
 use lib.Dec.{lit<}
 use native.Mathlib.Omega.{arith}
-use Rattle.format.specs.Base.{Bytes, Out, ok, refuse}
+use Rattle.format.specs.Base.{pick, Bytes, Out, ok, refuse}
 use Rattle.format.specs.Track.{leans}
 use Rattle.format.specs.Body.{Body}
 use Rattle.format.specs.Variant.{file-variant}
@@ -43,6 +44,11 @@ reply-outcome (refuse number place) = refl
 kept-too : (b : Bool) → b && true ≡ b
 kept-too true = refl
 kept-too false = refl
+
+-- what stands behind a row that a refusal leaves
+rest-after : (kept : Bool) (N : ℕ) (row : List ℕ) → drop N (pick kept row (replicate N 0 ++ drop N row)) ≡ drop N row
+rest-after true N row = refl
+rest-after false N row = drop-at (replicate N 0) (drop N row) N (length-replicate N 0)
 
 module _ (bs : List ℕ) (y : Bytes bs) (l : Layout) (a : read-layout 65536 bs ≡ ok l []) (row₀ : List ℕ) where
   -- the first record leans on nothing
@@ -88,8 +94,7 @@ module _ (bs : List ℕ) (y : Bytes bs) (l : Layout) (a : read-layout 65536 bs �
         where
           go : (m : Out Body) → record-over 65536 l v (take (l .samples) row) ≡ m → Walk l row₀ row₁ (suc v) (start + x .size)
           go (refuse number place) n =
-              let t : done r row₁ ≡ done (Refused number place) (replicate (l .samples) 0 ++ drop (l .samples) row)
-              = found ∙ ap (replied (leans (type-of l (file-variant v))) (l .samples) row) n in
+              let t = found ∙ ap (replied (leans (type-of l (file-variant v))) (l .samples) row) n in
               absurd (omega (arith, ap (λ (z : Outcome). refusal (reply-of z)) t, ap refusal q))
           go (ok body left) n =
               let t = found ∙ ap (replied (leans (type-of l (file-variant v))) (l .samples) row) n in
@@ -103,17 +108,19 @@ module _ (bs : List ℕ) (y : Bytes bs) (l : Layout) (a : read-layout 65536 bs �
                 rest-is = ap (λ (z : List ℕ). drop (l .samples) z) (ap row-of t) ∙ carried .1 ∙ w .rest-is;
               }
 
-      pub stops : (number place : ℕ) → r ≡ Refused number place → done (Refused number place) row₁ ≡ all-checked l row₀
-      stops number place q = go (record-over 65536 l v (take (l .samples) row)) refl
+      -- the row is cleared then
+      pub stops : (number place : ℕ) (last : List ℕ) → r ≡ Refused number place → last ≡ replicate (l .samples) 0 ++ drop (l .samples) row₁
+          → done (Refused number place) last ≡ all-checked l row₀
+      stops number place last q g = go (record-over 65536 l v (take (l .samples) row)) refl
         where
-          go : (m : Out Body) → record-over 65536 l v (take (l .samples) row) ≡ m → done (Refused number place) row₁ ≡ all-checked l row₀
+          go : (m : Out Body) → record-over 65536 l v (take (l .samples) row) ≡ m → done (Refused number place) last ≡ all-checked l row₀
           go (ok body left) n =
               let t = found ∙ ap (replied (leans (type-of l (file-variant v))) (l .samples) row) n in
               absurd (omega (arith, ap (λ (z : Outcome). refusal (reply-of z)) t, ap refusal q))
           go (refuse other there) n =
-              let t : done r row₁ ≡ done (Refused other there) (replicate (l .samples) 0 ++ drop (l .samples) row)
-              = found ∙ ap (replied (leans (type-of l (file-variant v))) (l .samples) row) n in
+              let t = found ∙ ap (replied (leans (type-of l (file-variant v))) (l .samples) row) n in
               let all : outcome (read-all 65536 l) ≡ refuse other there
               = sym (w .left-is) ∙ turn ∙ ap (then-check 65536 l v (take (l .samples) row)) n in
               ap₂ done (sym q ∙ ap reply-of t ∙ sym (sym (reply-outcome (read-all 65536 l)) ∙ ap record-reply all))
-              (ap row-of t ∙ ap (λ (rest : List ℕ). replicate (l .samples) 0 ++ rest) (w .rest-is))
+              (g ∙ ap (λ (rest : List ℕ). replicate (l .samples) 0 ++ rest)
+              (ap (λ (z : List ℕ). drop (l .samples) z) (ap row-of t) ∙ rest-after (leans (type-of l (file-variant v))) (l .samples) row ∙ w .rest-is))

@@ -34,6 +34,7 @@ pub fn check_records(file: &[u8], row: &mut [u8]) -> RecordReply
         let got = read_body(&file[..end], start, n, x.kind, true, row);
         match got {
             RecordReply::Refused { number, place } => {
+                clear(row, n);
                 return RecordReply::Refused { number, place };
             }
             RecordReply::Accepted => {

@@ -18,7 +18,7 @@ use Rattle.format.proofs.RowLaws.{apply-length}
 use Rattle.format.proofs.TrackLaws.{IsTrack, track-as-written}
 use Rattle.cursor.specs.declared.Cursor.{Cursor}
 use Rattle.cursor.proofs.ByteLaws.{bytes-of}
-use Rattle.difflist.specs.Entries.{Outcome, out}
+use Rattle.difflist.specs.Entries.{out}
 use Rattle.difflist.specs.declared.ListStep.{ListStep}
 use Rattle.difflist.specs.declared.ListStep.the-variants.{Listed, Refused}
 use Rattle.record.specs.declared.RecordReply.the-variants.{Accepted, Refused as NotAccepted}
@@ -46,9 +46,9 @@ sparse-kind (suc (suc (suc (suc (suc (suc zero)))))) g h q = refl
 sparse-kind (suc (suc (suc (suc (suc (suc (suc zero))))))) g h q = refl
 sparse-kind (suc (suc (suc (suc (suc (suc (suc (suc number)))))))) g h q = absurd (omega arith)
 
-module _ (l : List ℕ) (start n number : ℕ) (keep : Bool) (row : List ℕ) (o : Outcome) where
+module _ (l : List ℕ) (start n number : ℕ) (keep : Bool) (row : List ℕ) (r : ListStep) (new : List ℕ) where
   abbrev Of : Bool → Kind → Type 0
-  Of kept k = o ≡ stored kept (length l) n row (kind-categories n row k l start)
+  Of kept k = wiped kept n (out r new) ≡ stored kept (length l) n row (kind-categories n row k l start)
 
   pub of-array : number ≡ 0 → Of false array → Of (leans number && keep) (kind number)
   of-array e g = rw e g
@@ -70,13 +70,15 @@ categories-length n anchor (one-bit c bits es) e f = apply-length es (map (categ
 categories-length n anchor (leaning inverted es) e f = exchange-all-length inverted (apply es anchor) ∙ apply-length es anchor ∙ e
 categories-length n anchor (sparse category es) e f = apply-length es (replicate n category) ∙ length-replicate n category
 
-rest-kept : (kept : Bool) (n : ℕ) (first row : List ℕ) → length first ≡ n → drop n (pick kept row (first ++ drop n row)) ≡ drop n row
-rest-kept true n first row e = refl
-rest-kept false n first row e = rest-of n first row e
+-- a refusal leaves the same, before and after the record is put into the row
+zeros-alike : (kept : Bool) (n : ℕ) (first row new : List ℕ) → length first ≡ n → new ≡ pick kept row (first ++ drop n row)
+    → pick kept new (replicate n 0 ++ drop n new) ≡ pick kept row (replicate n 0 ++ drop n row)
+zeros-alike true n first row new e s = s
+zeros-alike false n first row new e s = rw (s, rest-of n first row e)
 
 module _ (l : List ℕ) (start n number : ℕ) (keep : Bool) (row : List ℕ) (y : (i : ℕ) → getD l i 0 < 256) (a : start ≤ length l) (h : n ≤ length row)
     (r : ListStep) (new : List ℕ)
-    (told : wiped n (out r new) ≡ stored (leans number && keep) (length l) n row (kind-categories n row (kind number) l start)) where
+    (told : wiped (leans number && keep) n (out r new) ≡ stored (leans number && keep) (length l) n row (kind-categories n row (kind number) l start)) where
   abbrev kept : Bool
   kept = leans number && keep
 
@@ -89,16 +91,16 @@ module _ (l : List ℕ) (start n number : ℕ) (keep : Bool) (row : List ℕ) (y
   was-read : Holds (IsTrack n (take n row) number (drop start l)) read
   was-read = track-as-written (length l) n (take n row) number (drop start l) (below-drop 256 start l (bytes-of l y))
 
-  was-told : wiped n (out r new) ≡ stored kept (length l) n row (map-out (track-categories n (take n row)) read)
+  was-told : wiped kept n (out r new) ≡ stored kept (length l) n row (map-out (track-categories n (take n row)) read)
   unfolding kind-categories
   was-told = told
 
-  pub track-refused : (refusal place : ℕ) (last : List ℕ) → r ≡ Refused refusal place → last ≡ replicate n 0 ++ drop n new
+  pub track-refused : (refusal place : ℕ) (last : List ℕ) → r ≡ Refused refusal place → last ≡ pick kept new (replicate n 0 ++ drop n new)
       → done (NotAccepted refusal place) last ≡ recorded keep n number l start row
   unfolding recorded read-body
   track-refused refusal place last q g = through read (rw q at was-told)
     where
-      through : (m : Out Track) → out (Refused refusal place) (replicate n 0 ++ drop n new) ≡ stored kept (length l) n row (map-out (track-categories n (take n row)) m)
+      through : (m : Out Track) → out (Refused refusal place) (pick kept new (replicate n 0 ++ drop n new)) ≡ stored kept (length l) n row (map-out (track-categories n (take n row)) m)
           → done (NotAccepted refusal place) last ≡ replied kept n row (whole m)
       through (ok track left) p = absurd (let z : _≡_ {A = ℕ} 0 1 = cc in omega arith)
       through (refuse refusal′ place′) p = cc
@@ -119,7 +121,7 @@ module _ (l : List ℕ) (start n number : ℕ) (keep : Bool) (row : List ℕ) (y
           let f : c .at ≡ length l - suc (length left) = cc in
           absurd (omega (arith, left-within track (b ∷ left) (w .written)))
 
-  pub track-left : (c : Cursor) (last : List ℕ) → r ≡ Listed c → c .at < length l → last ≡ replicate n 0 ++ drop n new
+  pub track-left : (c : Cursor) (last : List ℕ) → r ≡ Listed c → c .at < length l → last ≡ pick kept new (replicate n 0 ++ drop n new)
       → done (NotAccepted 13 (c .at)) last ≡ recorded keep n number l start row
   unfolding recorded read-body
   track-left c last q e g = through read (rw q at was-told) was-read
@@ -133,6 +135,19 @@ module _ (l : List ℕ) (start n number : ℕ) (keep : Bool) (row : List ℕ) (y
       through (ok track (b ∷ left)) p w =
           let f : c .at ≡ length l - suc (length left) = cc in
           let s : new ≡ pick kept row (track-categories n (take n row) track ++ drop n row) = cc in
-          let d : drop n new ≡ drop n row
-          = rw s (rest-kept kept n (track-categories n (take n row) track) row (categories-length n (take n row) track (length-take-le n row h) (w .fits))) in
+          let z : pick kept new (replicate n 0 ++ drop n new) ≡ pick kept row (replicate n 0 ++ drop n row)
+          = zeros-alike kept n (track-categories n (take n row) track) row new (categories-length n (take n row) track (length-take-le n row h) (w .fits)) s in
           cc
+
+-- ---- the ways to clear the row
+
+module _ (number : ℕ) (keep : Bool) (row new last : List ℕ) where
+  pub cleared-leaning : leans number ≡ false → last ≡ new → last ≡ pick (leans number && keep) row new
+  cleared-leaning e g = rw e g
+
+  pub cleared-read : keep ≡ false → last ≡ new → last ≡ pick (leans number && keep) row new
+  cleared-read e g = rw (e, never (leans number)) g
+    where
+      never : (b : Bool) → b && false ≡ false
+      never true = refl
+      never false = refl

@@ -28,11 +28,11 @@ use Rattle.record.proofs.RowLaws.{rest-of, zero-rest}
 -- `first` is what the list is against
 module _ (l : List ℕ) (at n : ℕ) (held : ListRule) (row mid first : List ℕ) (t : take n mid ≡ first) (d : drop n mid ≡ drop n row) where
   list-stored : (o : Outcome) → o ≡ listed true held n l at mid
-      → wiped n o ≡ stored false (length l) n row (map-out (λ es. apply es first) (read-list (rule n (may-hold held first)) (number-width n) (length l) (drop at l)))
+      → wiped false n o ≡ stored false (length l) n row (map-out (λ es. apply es first) (read-list (rule n (may-hold held first)) (number-width n) (length l) (drop at l)))
   unfolding listed
   list-stored o e = rw (e, t) (through (read-list (rule n (may-hold held first)) (number-width n) (length l) (drop at l)))
     where
-      through : (m : Out (List Entry)) → wiped n (replied true (length l) n mid m) ≡ stored false (length l) n row (map-out (λ es. apply es first) m)
+      through : (m : Out (List Entry)) → wiped false n (replied true (length l) n mid m) ≡ stored false (length l) n row (map-out (λ es. apply es first) m)
       through (ok es left) = rw (t, d)
       through (refuse number place) = rw (zero-rest n mid, d)
 
@@ -48,7 +48,7 @@ module _ (l : List ℕ) (start n category : ℕ) (row mid : List ℕ) (filled : 
   off-filled sample value h = rw (getD-replicate n sample category 1 h)
 
   pub sparse-stored : (o : Outcome) → o ≡ listed true OffRow n l start mid
-      → wiped n o ≡ stored false (length l) n row (kind-categories n row (against-category category) l start)
+      → wiped false n o ≡ stored false (length l) n row (kind-categories n row (against-category category) l start)
   unfolding kind-categories read-kind read-listed
   sparse-stored o e =
       let t : take n mid ≡ replicate n category = rw filled (take-at (replicate n category) (drop n row) n (length-replicate n category)) in
@@ -92,7 +92,7 @@ module _ (l : List ℕ) (at n lower higher : ℕ) (row mid : List ℕ) where
     unfolding unpacked-one
     bits-row = let e = rw (bits-accepted .reads) at told in cc
 
-    pub bits-listed : (o : Outcome) → o ≡ listed true (OffPair lower higher) n l next mid → wiped n o ≡ stored false (length l) n row (pair-categories lower higher n l at)
+    pub bits-listed : (o : Outcome) → o ≡ listed true (OffPair lower higher) n l next mid → wiped false n o ≡ stored false (length l) n row (pair-categories lower higher n l at)
     unfolding pair-categories
     bits-listed o e =
         let k : length (map (of-pair lower higher) bits) ≡ n = length-map bits (of-pair lower higher) ∙ tabulate-length (number-in one l at) n 0 in

@@ -91,7 +91,7 @@ module _ (l : List ℕ) (start n : ℕ) (inverted keep : Bool) (row : List ℕ) 
 
   -- the row that the list was put into, exchanged if the kind is inverted
   pub leaning-turned : (new : List ℕ) → new ≡ turned inverted keep n mid
-      → wiped n (out r new) ≡ stored keep (length l) n row (kind-categories n row (against-anchor inverted) l start)
+      → wiped keep n (out r new) ≡ stored keep (length l) n row (kind-categories n row (against-anchor inverted) l start)
   leaning-turned new g = rw leaning-is (through keep read was-told g)
     where
       cleared-rest : mid ≡ replicate n 0 ++ drop n row → drop n (exchange-all inverted (take n mid) ++ drop n mid) ≡ drop n row
@@ -101,7 +101,7 @@ module _ (l : List ℕ) (start n : ℕ) (inverted keep : Bool) (row : List ℕ) 
           rest-of n (exchange-all inverted (take n mid)) mid k ∙ rw e (zero-rest n row)
 
       through : (k : Bool) (m : Out (List Entry)) → out r mid ≡ replied (not k) (length l) n row m → new ≡ turned inverted k n mid
-          → wiped n (out r new) ≡ stored k (length l) n row (map-out categories m)
+          → wiped k n (out r new) ≡ stored k (length l) n row (map-out categories m)
       through true (ok es left) p f =
           let q : r ≡ Listed (before (length l) left) = cc in
           let e : new ≡ row = cc in

@@ -43,6 +43,10 @@ kind-1 : run true 1 (0x01 ∷ 0x06 ∷ 0x01 ∷ 0x04 ∷ 0x03 ∷ []) 0 (7 ∷ 7
 unfolding run
 kind-1 = refl
 
-byte-left : run true 2 (0x02 ∷ 0x01 ∷ 0x06 ∷ 0x03 ∷ 0 ∷ []) 0 (0 ∷ 1 ∷ 2 ∷ 3 ∷ 0 ∷ 7 ∷ []) ≡ done (Refused 13 4) (0 ∷ 0 ∷ 0 ∷ 0 ∷ 0 ∷ 7 ∷ [])
+byte-left : run false 2 (0x02 ∷ 0x01 ∷ 0x06 ∷ 0x03 ∷ 0 ∷ []) 0 (0 ∷ 1 ∷ 2 ∷ 3 ∷ 0 ∷ 7 ∷ []) ≡ done (Refused 13 4) (0 ∷ 0 ∷ 0 ∷ 0 ∷ 0 ∷ 7 ∷ [])
 unfolding run
 byte-left = refl
+
+kept-refused : run true 2 (0x02 ∷ 0x01 ∷ 0x06 ∷ 0x03 ∷ 0 ∷ []) 0 (0 ∷ 1 ∷ 2 ∷ 3 ∷ 0 ∷ 7 ∷ []) ≡ done (Refused 13 4) (0 ∷ 1 ∷ 2 ∷ 3 ∷ 0 ∷ 7 ∷ [])
+unfolding run
+kept-refused = refl

@@ -14,10 +14,10 @@ use Rattle.record.specs.declared.RecordReply.the-variants.{Accepted, Ref
 pub data Outcome : Type 0 where
   done : RecordReply → List ℕ → Outcome
 
--- an accepted record's categories stand in the row's first n bytes, unless the row is kept; after a refusal they are zero
+-- an accepted record's categories stand in the row's first n bytes; after a refusal they are zero. A kept row stays.
 abbrev pub replied : Bool → ℕ → List ℕ → Out Body → Outcome
 replied kept n row (ok body left) = done Accepted (pick kept row (body-categories n (take n row) body ++ drop n row))
-replied kept n row (refuse number place) = done (Refused number place) (replicate n 0 ++ drop n row)
+replied kept n row (refuse number place) = done (Refused number place) (pick kept row (replicate n 0 ++ drop n row))
 
 -- the record of a kind at `start`, that ends where the list l does. The row is kept where a leaning record is only checked.
 unfoldable pub recorded : Bool → ℕ → ℕ → List ℕ → ℕ → List ℕ → Outcome

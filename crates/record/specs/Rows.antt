@@ -15,15 +15,15 @@ use Rattle.packed.specs.Unpacked.{of-pair}
 use Rattle.difflist.specs.Entries.{Outcome, out}
 use Rattle.difflist.specs.declared.ListStep.the-variants.{Listed, Refused}
 
--- the row's first n bytes zero after a refusal
-abbrev pub wiped : ℕ → Outcome → Outcome
-wiped n (out (Listed c) row) = out (Listed c) row
-wiped n (out (Refused number place) row) = out (Refused number place) (replicate n 0 ++ drop n row)
+-- the row's first n bytes zero after a refusal, unless the row is kept
+abbrev pub wiped : Bool → ℕ → Outcome → Outcome
+wiped kept n (out (Listed c) row) = out (Listed c) row
+wiped kept n (out (Refused number place) row) = out (Refused number place) (pick kept row (replicate n 0 ++ drop n row))
 
--- categories in the row's first n bytes, unless the row is kept
+-- categories in the row's first n bytes, zeros after a refusal, unless the row is kept
 abbrev pub stored : Bool → ℕ → ℕ → List ℕ → Out (List ℕ) → Outcome
 stored kept end n row (ok categories left) = out (Listed (before end left)) (pick kept row (categories ++ drop n row))
-stored kept end n row (refuse number place) = out (Refused number place) (replicate n 0 ++ drop n row)
+stored kept end n row (refuse number place) = out (Refused number place) (pick kept row (replicate n 0 ++ drop n row))
 
 -- the categories of a track of a kind at `start`, over the row that holds its anchor's
 unfoldable pub kind-categories : ℕ → List ℕ → Kind → List ℕ → ℕ → Out (List ℕ)

@@ -7,10 +7,13 @@ use difflist::ListStep;
 use format::Pair;
 use format::PairFound;
 use packed::PackedStep;
+use types::type_leans;
 ghost use mathlib.Core.Path.{_≡_};
 ghost use Prim.Native.Nat.{_≤_, _<_};
 ghost use mathlib.Core.Bool.{false, _&&_};
-ghost use lib.ListN.{length, take};
+ghost use mathlib.Core.List.{_++_};
+ghost use lib.ListN.{length, take, drop, replicate};
+ghost use Rattle.format.specs.Base.{pick};
 ghost use Rattle.format.specs.Track.{Kind, array, paired, against-anchor, against-category, kind, leans};
 ghost use Rattle.difflist.specs.Entries.{out};
 ghost use Rattle.record.specs.Rows.{wiped, stored, pair-categories, tracked, turned};
@@ -24,7 +27,7 @@ pub enum RecordReply {
 // "Kind 0: the packed array."
 fn read_array(s: &[u8], start: usize, n: usize, row: &mut [u8]) -> ListStep
     requires { ⌜ (start ≤ length (now s)) × (n ≤ 65536) × (n ≤ length (now row)) ⌝ }
-    ensures { λ r. ⌜ wiped n (out r (now (row .exit))) ≡ tracked false array n (now (s .entry)) start (now (row .entry)) ⌝ }
+    ensures { λ r. ⌜ wiped false n (out r (now (row .exit))) ≡ tracked false array n (now (s .entry)) start (now (row .entry)) ⌝ }
 {
     let got = packed::unpack_categories(s, start, n, row);
     match got {
@@ -36,7 +39,7 @@ fn read_array(s: &[u8], start: usize, n: usize, row: &mut [u8]) -> ListStep
 // "a bit per sample (set: the higher category of the pair), then a list of pairs for samples in the other two categories"
 fn read_bits(s: &[u8], at: usize, n: usize, lower: u8, higher: u8, row: &mut [u8]) -> ListStep
     requires { ⌜ (at ≤ length (now s)) × (n ≤ 65536) × (n ≤ length (now row)) ⌝ }
-    ensures { λ r. ⌜ wiped n (out r (now (row .exit))) ≡ stored false (length (now (s .entry))) n (now (row .entry)) (pair-categories lower higher n (now (s .entry)) at) ⌝ }
+    ensures { λ r. ⌜ wiped false n (out r (now (row .exit))) ≡ stored false (length (now (s .entry))) n (now (row .entry)) (pair-categories lower higher n (now (s .entry)) at) ⌝ }
 {
     let got = packed::unpack_pair(s, at, n, lower, higher, row);
     match got {
@@ -51,7 +54,7 @@ fn read_bits(s: &[u8], at: usize, n: usize, lower: u8, higher: u8, row: &mut [u8
 // "Kind 1: a pair code". 14, "pair code unknown", at "that byte".
 fn read_pair(s: &[u8], start: usize, n: usize, row: &mut [u8]) -> ListStep
     requires { ⌜ (start ≤ length (now s)) × (n ≤ 65536) × (n ≤ length (now row)) ⌝ }
-    ensures { λ r. ⌜ wiped n (out r (now (row .exit))) ≡ tracked false paired n (now (s .entry)) start (now (row .entry)) ⌝ }
+    ensures { λ r. ⌜ wiped false n (out r (now (row .exit))) ≡ tracked false paired n (now (s .entry)) start (now (row .entry)) ⌝ }
 {
     let c = Cursor { at: start };
     let got = c.byte(s);
@@ -94,7 +97,7 @@ fn read_leaning(
     row: &mut [u8],
 ) -> ListStep
     requires { ⌜ (start ≤ length (now s)) × (n ≤ 65536) × (n ≤ length (now row)) ⌝ }
-    ensures { λ r. ⌜ wiped n (out r (now (row .exit))) ≡ tracked keep (against-anchor inverted) n (now (s .entry)) start (now (row .entry)) ⌝ }
+    ensures { λ r. ⌜ wiped keep n (out r (now (row .exit))) ≡ tracked keep (against-anchor inverted) n (now (s .entry)) start (now (row .entry)) ⌝ }
 {
     let c = Cursor { at: start };
     let got = difflist::apply_list(s, n, ListRule::OffRow, !keep, c, row);
@@ -105,7 +108,7 @@ fn read_leaning(
 // "Kinds 4, 6, 7: a list of the samples outside category 0, 2, 3": against a row in that category.
 fn read_sparse(s: &[u8], start: usize, n: usize, category: u8, row: &mut [u8]) -> ListStep
     requires { ⌜ (start ≤ length (now s)) × (n ≤ 65536) × (n ≤ length (now row)) ⌝ }
-    ensures { λ r. ⌜ wiped n (out r (now (row .exit))) ≡ tracked false (against-category category) n (now (s .entry)) start (now (row .entry)) ⌝ }
+    ensures { λ r. ⌜ wiped false n (out r (now (row .exit))) ≡ tracked false (against-category category) n (now (s .entry)) start (now (row .entry)) ⌝ }
 {
     packed::fill(row, n, category);
     let c = Cursor { at: start };
@@ -116,7 +119,7 @@ fn read_sparse(s: &[u8], start: usize, n: usize, category: u8, row: &mut [u8]) -
 fn read_track(s: &[u8], start: usize, n: usize, number: u8, keep: bool, row: &mut [u8]) -> ListStep
     requires { ⌜ (start ≤ length (now s)) × (n ≤ 65536) × (n ≤ length (now row)) ⌝ }
     requires { ⌜ (number < 8) × (number ≡ 5 → ⊥) ⌝ }
-    ensures { λ r. ⌜ wiped n (out r (now (row .exit))) ≡ tracked (leans number && keep) (kind number) n (now (s .entry)) start (now (row .entry)) ⌝ }
+    ensures { λ r. ⌜ wiped (leans number && keep) n (out r (now (row .exit))) ≡ tracked (leans number && keep) (kind number) n (now (s .entry)) start (now (row .entry)) ⌝ }
 {
     if number == 0 {
         return read_array(s, start, n, row);
@@ -130,30 +133,43 @@ fn read_track(s: &[u8], start: usize, n: usize, number: u8, keep: bool, row: &mu
     read_sparse(s, start, n, number - 4, row)
 }
 
+// After a refusal the row's first n bytes are zero, unless a record that leans was only checked.
+fn clear_refused(row: &mut [u8], n: usize, kind: u8, keep: bool)
+    requires { ⌜ n ≤ length (now row) ⌝ }
+    ensures { λ _. ⌜ now (row .exit) ≡ pick (leans kind && keep) (now (row .entry)) (replicate n 0 ++ drop n (now (row .entry))) ⌝ }
+{
+    if keep {
+        if type_leans(kind) {
+            return;
+        }
+    }
+    packed::clear(row, n);
+}
+
 // The record of a kind, from `start` on. The row's first n bytes hold the anchor's categories if the kind leans; they become the record's own,
-// or stay where a leaning record is only checked (`keep`). 01, Replies: "Lastly 13"; after every refusal they are zero.
+// and after a refusal they are zero. Where a leaning record is only checked (`keep`), they stay. 01, Replies: "Lastly 13".
 pub fn read_body(
     s: &[u8],
     start: usize,
     n: usize,
-    number: u8,
+    kind: u8,
     keep: bool,
     row: &mut [u8],
 ) -> RecordReply
     requires { ⌜ (start ≤ length (now s)) × (n ≤ 65536) × (n ≤ length (now row)) ⌝ }
-    requires { ⌜ (number < 8) × (number ≡ 5 → ⊥) ⌝ }
-    ensures { λ r. ⌜ done r (now (row .exit)) ≡ recorded keep n number (now (s .entry)) start (now (row .entry)) ⌝ }
+    requires { ⌜ (kind < 8) × (kind ≡ 5 → ⊥) ⌝ }
+    ensures { λ r. ⌜ done r (now (row .exit)) ≡ recorded keep n kind (now (s .entry)) start (now (row .entry)) ⌝ }
 {
-    let got = read_track(s, start, n, number, keep, row);
+    let got = read_track(s, start, n, kind, keep, row);
     match got {
         ListStep::Refused { number, place } => {
-            packed::clear(row, n);
+            clear_refused(row, n, kind, keep);
             RecordReply::Refused { number, place }
         }
         ListStep::Listed(next) => {
             let at = next.at;
             if at < s.len() {
-                packed::clear(row, n);
+                clear_refused(row, n, kind, keep);
                 return RecordReply::Refused {
                     number: 13,
                     place: at,

@@ -6,25 +6,25 @@ use native.Mathlib.Omega.{arith}
 use lib.ListN.{length}
 use Prim.Native.Nat.{_-_}
 use Rattle.format.specs.Reply.{member}
-use Rattle.flipheader.specs.Reads.{fixed}
+use Rattle.blocks.specs.Parts.{fixed}
 use Rattle.flipfile.specs.Passes.{all-bodies}
 use Rattle.flipfile.proofs.Turns.{Bodies, bodies-first, bodies-last, bodies-stop, inside, bodies-next}
 use Rattle.flipfile.proofs.flip_bodies.Statement.{statement}
 use Rattle.flipfile.proofs.flip_bodies.Tie as tie
 
 abbrev Inv-loop : tie.InvT-loop
-Inv-loop file₀ set h m n v₀ start₀ lent₀ file v start lent = Bodies (fixed h) (member set) (all-bodies 65536 (fixed h) (member set) file₀) (length file₀) file v start lent
+Inv-loop file₀ set f m n v₀ start₀ lent₀ file v start lent = Bodies (fixed f) (member set) (all-bodies 65536 (fixed f) (member set) file₀) (length file₀) file v start lent
 
 abbrev μ-loop : tie.MeasureT-loop
-μ-loop file₀ set h m n v₀ start₀ lent₀ file v start lent = m - v
+μ-loop file₀ set f m n v₀ start₀ lent₀ file v start lent = m - v
 
-start-of-records-requires : tie.Need-start-of-records-requires Inv-loop μ-loop
-start-of-records-requires c κs = search needs
+header-end-requires : tie.Need-header-end-requires Inv-loop μ-loop
+header-end-requires c κs = search needs
 
 loop-holds : tie.Need-loop-holds Inv-loop μ-loop
 loop-holds c =
-    let a = c .before .before .before .before .args in
-    bodies-first (fixed (a .h)) (member (a .set .now)) (a .file .now) (c .start-of-records .result) (c .start-of-records .ensures)
+    let a = c .before .before .before .args in
+    bodies-first (fixed (a .f)) (member (a .set .now)) (a .file .now) (c .header-end .result) (c .header-end .ensures .0)
 
 kind-of-requires : tie.Need-kind-of-requires Inv-loop μ-loop
 kind-of-requires c κs = search needs
@@ -58,7 +58,7 @@ is-member-requires c κs = search needs
 
 flip-body-requires : tie.Need-flip-body-requires Inv-loop μ-loop
 flip-body-requires c κs =
-    let pre = c .before .before .before .before .before .before .before .before .before .before .before .before .before .before .pre in
+    let pre = c .before .before .before .before .before .before .before .before .before .before .before .before .before .pre in
     let loop = c .before .before .before .before .before .before .before .before .before .loop in
     let size-of = c .before .before .before .before .size-of in
     let fits2 = c .before .before .before .fits2 in
@@ -98,7 +98,7 @@ flip-bodies-spec =
     (tie.spec
     Inv-loop
     μ-loop
-    start-of-records-requires
+    header-end-requires
     loop-holds
     kind-of-requires
     size-of-requires

@@ -16,7 +16,7 @@ put-type-requires c κs =
     let a = c .before .before .before .before .before .args in
     let pre = c .before .before .before .before .before .pre in
     let flip-of-type = c .before .flip-of-type in
-    (pre .0, pre .1, flipped-small (a .h) (a .lent) (a .own) (a .kind) (flip-of-type .result) (pre .2) (flip-of-type .ensures))
+    (pre .0, pre .1, pre .2, flipped-small (a .f) (a .lent) (a .own) (a .kind) (flip-of-type .result) (pre .3) (flip-of-type .ensures))
 
 same-length : tie.Need-same-length
 same-length c = search needs
@@ -26,14 +26,14 @@ returns c =
     let a = c .before .before .before .before .before .before .before .before .args in
     let is-touched = c .before .before .before .before .before .before .is-touched in
     let flip-of-type = c .before .before .before .before .flip-of-type in
-    type-written (a .h) (a .v) (a .lent) (a .own) (a .kind) (a .file .now) (is-touched .result) (is-touched .ensures) (c .before .before .before .before .before .if1 .taken)
+    type-written (a .f) (a .v) (a .lent) (a .own) (a .kind) (a .file .now) (is-touched .result) (is-touched .ensures) (c .before .before .before .before .before .if1 .taken)
     (flip-of-type .result) _ (flip-of-type .ensures) (c .before .before .put-type .ensures)
 
 returns-2 : tie.Need-returns-2
 returns-2 c =
     let a = c .before .before .before .args in
     let is-touched = c .before .is-touched in
-    type-left (a .h) (a .v) (a .lent) (a .own) (a .kind) (a .file .now) (is-touched .result) (is-touched .ensures) (c .if1 .left)
+    type-left (a .f) (a .v) (a .lent) (a .own) (a .kind) (a .file .now) (is-touched .result) (is-touched .ensures) (c .if1 .left)
 
 pub flip-type-spec : {M : Type 1} → statement M
 flip-type-spec =

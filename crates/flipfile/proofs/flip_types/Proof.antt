@@ -6,7 +6,7 @@ use lib.ListN.{length}
 use Prim.Native.Nat.{_-_}
 use Rattle.format.specs.Variant.{file-variant}
 use Rattle.format.specs.Reply.{member}
-use Rattle.flipheader.specs.Reads.{fixed}
+use Rattle.blocks.specs.Parts.{fixed}
 use Rattle.flipfile.specs.Passes.{all-types}
 use Rattle.flipfile.proofs.Ways.{read-small}
 use Rattle.flipfile.proofs.Turns.{Types, types-first, types-last, types-next}
@@ -14,15 +14,15 @@ use Rattle.flipfile.proofs.flip_types.Statement.{statement}
 use Rattle.flipfile.proofs.flip_types.Tie as tie
 
 abbrev Inv-loop : tie.InvT-loop
-Inv-loop file₀ set h m v₀ lent₀ file v lent = Types (fixed h) (member set) (all-types 65536 (fixed h) (member set) file₀) (length file₀) file v lent
+Inv-loop file₀ set f m v₀ lent₀ file v lent = Types (fixed f) (member set) (all-types 65536 (fixed f) (member set) file₀) (length file₀) file v lent
 
 abbrev μ-loop : tie.MeasureT-loop
-μ-loop file₀ set h m v₀ lent₀ file v lent = m - v
+μ-loop file₀ set f m v₀ lent₀ file v lent = m - v
 
 loop-holds : tie.Need-loop-holds Inv-loop μ-loop
 loop-holds c =
     let a = c .before .before .args in
-    types-first (fixed (a .h)) (member (a .set .now)) (a .file .now)
+    types-first (fixed (a .f)) (member (a .set .now)) (a .file .now)
 
 type-of-requires : tie.Need-type-of-requires Inv-loop μ-loop
 type-of-requires c κs = search needs
@@ -36,7 +36,7 @@ flip-type-requires c κs =
     let pre = c .before .before .before .before .before .before .before .before .pre in
     let loop = c .before .before .before .before .before .loop in
     let type-of = c .before .before .type-of in
-    (pre, omega arith, read-small (a .h) (loop .file) (file-variant (loop .v)) (type-of .result) (type-of .ensures))
+    (pre .0, omega arith, pre .1, read-small (a .f) (loop .file) (file-variant (loop .v)) (type-of .result) (type-of .ensures))
 
 next-lent-requires : tie.Need-next-lent-requires Inv-loop μ-loop
 next-lent-requires c κs = search needs

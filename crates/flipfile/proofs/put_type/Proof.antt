@@ -2,22 +2,28 @@
 -- Assumes nothing.
 use mathlib.Core.Path.{ap}
 use Rattle.format.specs.declared.BlockVariant.{BlockVariant}
-use Rattle.flipfile.proofs.Ways.{put-inside, put-outside}
+use Rattle.blocks.specs.Parts.{fixed}
+use Rattle.flipfile.proofs.Ways.{room, put-inside, put-outside}
 use borrow.Author.Needs.{needs}
 use Rattle.flipfile.proofs.put_type.Statement.{statement}
 use Rattle.flipfile.proofs.put_type.Tie as tie
 
-place-of-type-requires : tie.Need-place-of-type-requires
-place-of-type-requires c κs = search needs
+blocks-of-requires : tie.Need-blocks-of-requires
+blocks-of-requires c κs = search needs
+
+type-place-requires : tie.Need-type-place-requires
+type-place-requires c κs = search needs
 
 in-block-requires : tie.Need-in-block-requires
 in-block-requires c κs = search needs
 
-slice-read-b : tie.Need-slice-read-b
-slice-read-b c = search needs
+slice-read-byte : tie.Need-slice-read-byte
+slice-read-byte c = search needs
 
 with-type-requires : tie.Need-with-type-requires
-with-type-requires c κs = search needs
+with-type-requires c κs =
+    let a = c .before .before .before .before .before .before .args in
+    room (a .f) (c .before .before .before .before .blocks-of .result) (c .before .before .before .before .blocks-of .ensures .0) (a .x) (c .before .before .before .before .before .before .pre .3)
 
 slice-write-file : tie.Need-slice-write-file
 slice-write-file c = search needs
@@ -27,25 +33,28 @@ same-length c = search needs
 
 returns : tie.Need-returns
 returns c =
-    let a = c .before .before .before .before .before .before .args in
-    let place-of-type = c .before .before .before .before .place-of-type in
-    let in-block = c .before .before .before .in-block in
-    put-inside (a .h) (a .file .now) (a .v) (a .x) (place-of-type .result) (place-of-type .ensures) (in-block .result .0) (c .with-type .result)
-    (ap (λ (z : BlockVariant). z .0) (in-block .ensures)) (c .with-type .ensures)
+    let a = c .before .before .before .before .before .before .before .args in
+    let b = c .before .before .before .before .before .blocks-of in
+    let place = c .before .before .before .before .type-place in
+    let i = c .before .before .before .in-block in
+    put-inside (a .f) (b .result) (b .ensures .0) (a .file .now) (a .v) (a .x) (place .result) (place .ensures (fixed (a .f)) (b .ensures .0)) (i .result .0) (c .with-type .result)
+    (ap (λ (z : BlockVariant). z .0) (i .ensures)) (c .with-type .ensures)
 
 returns-2 : tie.Need-returns-2
 returns-2 c =
-    let a = c .before .before .before .before .args in
-    let place-of-type = c .before .before .place-of-type in
-    put-outside (a .h) (a .file .now) (a .v) (a .x) (place-of-type .result) (place-of-type .ensures) (c .if1 .left)
+    let a = c .before .before .before .before .before .args in
+    let b = c .before .before .before .blocks-of in
+    let place = c .before .before .type-place in
+    put-outside (a .f) (b .result) (b .ensures .0) (a .file .now) (a .v) (a .x) (place .result) (place .ensures (fixed (a .f)) (b .ensures .0)) (c .if1 .left)
 
 pub put-type-spec : {M : Type 1} → statement M
 put-type-spec =
     tie.close
     (tie.spec
-    place-of-type-requires
+    blocks-of-requires
+    type-place-requires
     in-block-requires
-    slice-read-b
+    slice-read-byte
     with-type-requires
     slice-write-file
     same-length

@@ -11,35 +11,35 @@ mul-result c = search needs
 
 add-result : tie.Need-add-result
 add-result c =
-    let a = c .before .before .before .args in
-    omega (arith, small-four (a .h) (a .b) (a .i) (a .x) (c .before .if1 .taken) (c .before .before .before .pre))
-
-mul-result-2 : tie.Need-mul-result-2
-mul-result-2 c =
-    let a = c .before .before .before .args in
-    omega (arith, small-four (a .h) (a .b) (a .i) (a .x) (c .before .if1 .taken) (c .before .before .before .pre))
-
-add-result-2 : tie.Need-add-result-2
-add-result-2 c =
-    let a = c .before .before .before .args in
-    omega (arith, small-four (a .h) (a .b) (a .i) (a .x) (c .before .if1 .taken) (c .before .before .before .pre))
+    let a = c .before .before .args in
+    omega (arith, small-four (a .byte) (a .half) (a .i) (a .x) (c .before .if1 .taken) (c .before .before .pre))
 
 returns : tie.Need-returns
 returns c =
-    let a = c .before .before .before .args in
-    with-even (a .h) (a .b) (a .i) (a .x) (c .before .if1 .taken) (c .if2 .taken)
+    let a = c .before .before .args in
+    with-even (a .byte) (a .half) (a .i) (a .x) (c .before .if1 .taken) (c .if2 .taken)
+
+mul-result-2 : tie.Need-mul-result-2
+mul-result-2 c =
+    let a = c .before .before .args in
+    omega (arith, small-four (a .byte) (a .half) (a .i) (a .x) (c .before .if1 .taken) (c .before .before .pre))
+
+add-result-2 : tie.Need-add-result-2
+add-result-2 c =
+    let a = c .before .before .args in
+    omega (arith, small-four (a .byte) (a .half) (a .i) (a .x) (c .before .if1 .taken) (c .before .before .pre))
 
 returns-2 : tie.Need-returns-2
 returns-2 c =
-    let a = c .before .before .before .args in
-    with-odd (a .h) (a .b) (a .i) (a .x) (c .before .if1 .taken) (c .if2 .left) (omega arith)
+    let a = c .before .before .args in
+    with-odd (a .byte) (a .half) (a .i) (a .x) (c .before .if1 .taken) (c .if2 .left) (omega arith)
 
 returns-3 : tie.Need-returns-3
 returns-3 c =
-    let a = c .before .before .args in
-    with-whole (a .h) (a .b) (a .i) (a .x) (c .if1 .left) (omega arith)
+    let a = c .before .args in
+    with-whole (a .byte) (a .half) (a .i) (a .x) (c .if1 .left) (omega arith)
 
 pub with-type-spec : {M : Type 1} → statement M
 with-type-spec =
     tie.close
-    (tie.spec mul-result add-result mul-result-2 add-result-2 returns returns-2 returns-3)
+    (tie.spec mul-result add-result returns mul-result-2 add-result-2 returns-2 returns-3)

@@ -35,34 +35,194 @@ abbrev μ-loop : tie.MeasureT-loop
 μ-loop file row₀ f m n start₀ v₀ row start v = m - v
 
 fields-at-requires : tie.Need-fields-at-requires Inv-loop μ-loop
-fields-at-requires c κs = long (now (c .before .before .args .file)) (c .before .before .pre .layout) (c .before .before .pre .accepted)
+fields-at-requires c κs =
+    let args = c .before .before .args in
+    let pre = c .before .before .pre in
+    long (now (args .file)) (pre .layout) (pre .accepted)
 
 header-end-requires : tie.Need-header-end-requires Inv-loop μ-loop
-header-end-requires c κs = few-variants (now (c .before .before .before .args .file)) (all-bytes (now (c .before .before .before .args .file)) (λ i. c .before .before .shared-slice-known .given i .fits)) (c .before .before .before .pre .layout) (c .before .before .before .pre .accepted) (c .fields-at .result) (c .fields-at .ensures)
+header-end-requires c κs =
+    let args = c .before .before .before .args in
+    let shared-slice-known = c .before .before .shared-slice-known in
+    let pre = c .before .before .before .pre in
+    let fields-at = c .fields-at in
+    let bs = now (args .file) in
+    let y = all-bytes bs (λ i. shared-slice-known .given i .fits) in
+    let l = pre .layout in
+    let a = pre .accepted in
+    few-variants bs y l a (fields-at .result) (fields-at .ensures)
 
 loop-holds : tie.Need-loop-holds Inv-loop μ-loop
-loop-holds c = (λ l q. starts (now (c .before .before .before .before .args .file)) (all-bytes (now (c .before .before .before .before .args .file)) (λ i. c .before .before .before .shared-slice-known .given i .fits)) l q (now (c .before .before .before .before .args .row)) (c .header-end .result) (c .header-end .ensures .0 ∙ ap (header-end 65536) (fields-are (now (c .before .before .before .before .args .file)) (all-bytes (now (c .before .before .before .before .args .file)) (λ i. c .before .before .before .shared-slice-known .given i .fits)) l q (c .before .fields-at .result) (c .before .fields-at .ensures))), refl)
+loop-holds c =
+    let args = c .before .before .before .before .args in
+    let shared-slice-known = c .before .before .before .shared-slice-known in
+    let header-end-call = c .header-end in
+    let fields-at = c .before .fields-at in
+    let bs = now (args .file) in
+    let y = all-bytes bs (λ i. shared-slice-known .given i .fits) in (
+      λ l q. starts bs y l q (now (args .row)) (header-end-call .result) (header-end-call .ensures .0 ∙ ap (header-end 65536) (fields-are bs y l q (fields-at
+          .result) (fields-at .ensures))),
+      refl,
+    )
 
 extent-of-requires : tie.Need-extent-of-requires Inv-loop μ-loop
-extent-of-requires c κs = (has (now (c .before .before .before .before .before .before .args .file)) (all-bytes (now (c .before .before .before .before .before .before .args .file)) (λ i. c .before .before .before .before .before .shared-slice-known .given i .fits)) (c .before .before .before .before .before .before .pre .layout) (c .before .before .before .before .before .before .pre .accepted) (file-variant (c .before .loop .v)) (omega (arith, count-is (now (c .before .before .before .before .before .before .args .file)) (all-bytes (now (c .before .before .before .before .before .before .args .file)) (λ i. c .before .before .before .before .before .shared-slice-known .given i .fits)) (c .before .before .before .before .before .before .pre .layout) (c .before .before .before .before .before .before .pre .accepted) (c .before .before .before .fields-at .result) (c .before .before .before .fields-at .ensures), c .loop-test .taken)), (c .before .before .before .fields-at .ensures))
+extent-of-requires c κs =
+    let args = c .before .before .before .before .before .before .args in
+    let shared-slice-known = c .before .before .before .before .before .shared-slice-known in
+    let pre = c .before .before .before .before .before .before .pre in
+    let loop = c .before .loop in
+    let fields-at = c .before .before .before .fields-at in
+    let loop-test = c .loop-test in
+    let bs = now (args .file) in
+    let y = all-bytes bs (λ i. shared-slice-known .given i .fits) in
+    let l = pre .layout in
+    let a = pre .accepted in (
+      has bs y l a (file-variant (loop .v)) (omega (arith, count-is bs y l a (fields-at .result) (fields-at .ensures), loop-test .taken)),
+      (fields-at .ensures),
+    )
 
 add-end : tie.Need-add-end Inv-loop μ-loop
-add-end c = omega (arith, inside (now (c .before .before .before .before .before .before .before .before .args .file)) (all-bytes (now (c .before .before .before .before .before .before .before .before .args .file)) (λ i. c .before .before .before .before .before .before .before .shared-slice-known .given i .fits)) (c .before .before .before .before .before .before .before .before .pre .layout) (c .before .before .before .before .before .before .before .before .pre .accepted) (file-variant (c .before .before .before .loop .v)) (omega (arith, count-is (now (c .before .before .before .before .before .before .before .before .args .file)) (all-bytes (now (c .before .before .before .before .before .before .before .before .args .file)) (λ i. c .before .before .before .before .before .before .before .shared-slice-known .given i .fits)) (c .before .before .before .before .before .before .before .before .pre .layout) (c .before .before .before .before .before .before .before .before .pre .accepted) (c .before .before .before .before .before .fields-at .result) (c .before .before .before .before .before .fields-at .ensures), c .before .before .loop-test .taken)) (c .before .before .before .loop .start) (c .before .before .before .loop .start + (c .before .extent-of .result) .size) ((c .before .extent-of .result) .kind) (its-place (now (c .before .before .before .before .before .before .before .before .args .file)) (all-bytes (now (c .before .before .before .before .before .before .before .before .args .file)) (λ i. c .before .before .before .before .before .before .before .shared-slice-known .given i .fits)) (c .before .before .before .before .before .before .before .before .pre .layout) (c .before .before .before .before .before .before .before .before .pre .accepted) (now (c .before .before .before .before .before .before .before .before .args .row)) (c .before .before .before .loop .row) (c .before .before .before .loop .v) (c .before .before .before .loop .start) (c .before .before .before .loop .inv .0 (c .before .before .before .before .before .before .before .before .pre .layout) (c .before .before .before .before .before .before .before .before .pre .accepted)) (omega (arith, count-is (now (c .before .before .before .before .before .before .before .before .args .file)) (all-bytes (now (c .before .before .before .before .before .before .before .before .args .file)) (λ i. c .before .before .before .before .before .before .before .shared-slice-known .given i .fits)) (c .before .before .before .before .before .before .before .before .pre .layout) (c .before .before .before .before .before .before .before .before .pre .accepted) (c .before .before .before .before .before .fields-at .result) (c .before .before .before .before .before .fields-at .ensures), c .before .before .loop-test .taken)) (c .before .extent-of .result) (c .before .extent-of .ensures (c .before .before .before .before .before .before .before .before .pre .layout) (c .before .before .before .before .before .before .before .before .pre .accepted))))
+add-end c =
+    let args = c .before .before .before .before .before .before .before .before .args in
+    let shared-slice-known = c .before .before .before .before .before .before .before .shared-slice-known in
+    let pre = c .before .before .before .before .before .before .before .before .pre in
+    let loop = c .before .before .before .loop in
+    let fields-at = c .before .before .before .before .before .fields-at in
+    let loop-test = c .before .before .loop-test in
+    let extent-of = c .before .extent-of in
+    let bs = now (args .file) in
+    let y = all-bytes bs (λ i. shared-slice-known .given i .fits) in
+    let l = pre .layout in
+    let a = pre .accepted in
+    omega (
+      arith,
+      inside bs y l a (file-variant (loop .v)) (omega (
+        arith,
+        count-is bs y l a (fields-at .result) (fields-at .ensures),
+        loop-test
+            .taken,
+      )) (loop .start) (loop .start + (extent-of .result) .size) ((extent-of .result) .kind) (its-place bs y l a (now (args .row)) (loop
+          .row) (loop .v) (loop .start) (loop .inv .0 l a) (omega (
+            arith,
+            count-is bs y l a (fields-at .result) (fields-at .ensures),
+            loop-test
+                .taken,
+          )) (extent-of .result) (extent-of .ensures l a)),
+    )
 
 slice-aggregate-read-body : tie.Need-slice-aggregate-read-body Inv-loop μ-loop
-slice-aggregate-read-body c = sym (cut-end (now (c .before .before .before .before .before .before .before .before .before .args .file)) (all-bytes (now (c .before .before .before .before .before .before .before .before .before .args .file)) (λ i. c .before .before .before .before .before .before .before .before .shared-slice-known .given i .fits)) (c .before .before .before .before .before .before .before .before .before .pre .layout) (c .before .before .before .before .before .before .before .before .before .pre .accepted) (file-variant (c .before .before .before .before .loop .v)) (omega (arith, count-is (now (c .before .before .before .before .before .before .before .before .before .args .file)) (all-bytes (now (c .before .before .before .before .before .before .before .before .before .args .file)) (λ i. c .before .before .before .before .before .before .before .before .shared-slice-known .given i .fits)) (c .before .before .before .before .before .before .before .before .before .pre .layout) (c .before .before .before .before .before .before .before .before .before .pre .accepted) (c .before .before .before .before .before .before .fields-at .result) (c .before .before .before .before .before .before .fields-at .ensures), c .before .before .before .loop-test .taken)) (c .before .before .before .before .loop .start) (c .before .before .before .before .loop .start + (c .before .before .extent-of .result) .size) ((c .before .before .extent-of .result) .kind) (its-place (now (c .before .before .before .before .before .before .before .before .before .args .file)) (all-bytes (now (c .before .before .before .before .before .before .before .before .before .args .file)) (λ i. c .before .before .before .before .before .before .before .before .shared-slice-known .given i .fits)) (c .before .before .before .before .before .before .before .before .before .pre .layout) (c .before .before .before .before .before .before .before .before .before .pre .accepted) (now (c .before .before .before .before .before .before .before .before .before .args .row)) (c .before .before .before .before .loop .row) (c .before .before .before .before .loop .v) (c .before .before .before .before .loop .start) (c .before .before .before .before .loop .inv .0 (c .before .before .before .before .before .before .before .before .before .pre .layout) (c .before .before .before .before .before .before .before .before .before .pre .accepted)) (omega (arith, count-is (now (c .before .before .before .before .before .before .before .before .before .args .file)) (all-bytes (now (c .before .before .before .before .before .before .before .before .before .args .file)) (λ i. c .before .before .before .before .before .before .before .before .shared-slice-known .given i .fits)) (c .before .before .before .before .before .before .before .before .before .pre .layout) (c .before .before .before .before .before .before .before .before .before .pre .accepted) (c .before .before .before .before .before .before .fields-at .result) (c .before .before .before .before .before .before .fields-at .ensures), c .before .before .before .loop-test .taken)) (c .before .before .extent-of .result) (c .before .before .extent-of .ensures (c .before .before .before .before .before .before .before .before .before .pre .layout) (c .before .before .before .before .before .before .before .before .before .pre .accepted))))
+slice-aggregate-read-body c =
+    let args = c .before .before .before .before .before .before .before .before .before .args in
+    let shared-slice-known = c .before .before .before .before .before .before .before .before .shared-slice-known in
+    let pre = c .before .before .before .before .before .before .before .before .before .pre in
+    let loop = c .before .before .before .before .loop in
+    let fields-at = c .before .before .before .before .before .before .fields-at in
+    let loop-test = c .before .before .before .loop-test in
+    let extent-of = c .before .before .extent-of in
+    let bs = now (args .file) in
+    let y = all-bytes bs (λ i. shared-slice-known .given i .fits) in
+    let l = pre .layout in
+    let a = pre .accepted in
+    sym (cut-end bs y l a (file-variant (loop .v)) (omega (arith, count-is bs y l a (fields-at .result) (fields-at .ensures), loop-test .taken))
+    (loop .start) (loop .start + (extent-of .result) .size) ((extent-of .result) .kind) (its-place bs y l a (now (args .row)) (loop .row) (loop
+    .v) (loop .start) (loop .inv .0 l a) (omega (arith, count-is bs y l a (fields-at .result) (fields-at .ensures), loop-test .taken))
+    (extent-of .result) (extent-of .ensures l a)))
 
 read-body-requires : tie.Need-read-body-requires Inv-loop μ-loop
-read-body-requires c κs = ((omega (arith, cut-end (now (c .before .before .before .before .before .before .before .before .before .before .args .file)) (all-bytes (now (c .before .before .before .before .before .before .before .before .before .before .args .file)) (λ i. c .before .before .before .before .before .before .before .before .before .shared-slice-known .given i .fits)) (c .before .before .before .before .before .before .before .before .before .before .pre .layout) (c .before .before .before .before .before .before .before .before .before .before .pre .accepted) (file-variant (c .before .before .before .before .before .loop .v)) (omega (arith, count-is (now (c .before .before .before .before .before .before .before .before .before .before .args .file)) (all-bytes (now (c .before .before .before .before .before .before .before .before .before .before .args .file)) (λ i. c .before .before .before .before .before .before .before .before .before .shared-slice-known .given i .fits)) (c .before .before .before .before .before .before .before .before .before .before .pre .layout) (c .before .before .before .before .before .before .before .before .before .before .pre .accepted) (c .before .before .before .before .before .before .before .fields-at .result) (c .before .before .before .before .before .before .before .fields-at .ensures), c .before .before .before .before .loop-test .taken)) (c .before .before .before .before .before .loop .start) (c .before .before .before .before .before .loop .start + (c .before .before .before .extent-of .result) .size) ((c .before .before .before .extent-of .result) .kind) (its-place (now (c .before .before .before .before .before .before .before .before .before .before .args .file)) (all-bytes (now (c .before .before .before .before .before .before .before .before .before .before .args .file)) (λ i. c .before .before .before .before .before .before .before .before .before .shared-slice-known .given i .fits)) (c .before .before .before .before .before .before .before .before .before .before .pre .layout) (c .before .before .before .before .before .before .before .before .before .before .pre .accepted) (now (c .before .before .before .before .before .before .before .before .before .before .args .row)) (c .before .before .before .before .before .loop .row) (c .before .before .before .before .before .loop .v) (c .before .before .before .before .before .loop .start) (c .before .before .before .before .before .loop .inv .0 (c .before .before .before .before .before .before .before .before .before .before .pre .layout) (c .before .before .before .before .before .before .before .before .before .before .pre .accepted)) (omega (arith, count-is (now (c .before .before .before .before .before .before .before .before .before .before .args .file)) (all-bytes (now (c .before .before .before .before .before .before .before .before .before .before .args .file)) (λ i. c .before .before .before .before .before .before .before .before .before .shared-slice-known .given i .fits)) (c .before .before .before .before .before .before .before .before .before .before .pre .layout) (c .before .before .before .before .before .before .before .before .before .before .pre .accepted) (c .before .before .before .before .before .before .before .fields-at .result) (c .before .before .before .before .before .before .before .fields-at .ensures), c .before .before .before .before .loop-test .taken)) (c .before .before .before .extent-of .result) (c .before .before .before .extent-of .ensures (c .before .before .before .before .before .before .before .before .before .before .pre .layout) (c .before .before .before .before .before .before .before .before .before .before .pre .accepted)))), omega (arith, few-samples (now (c .before .before .before .before .before .before .before .before .before .before .args .file)) (all-bytes (now (c .before .before .before .before .before .before .before .before .before .before .args .file)) (λ i. c .before .before .before .before .before .before .before .before .before .shared-slice-known .given i .fits)) (c .before .before .before .before .before .before .before .before .before .before .pre .layout) (c .before .before .before .before .before .before .before .before .before .before .pre .accepted), samples-are (now (c .before .before .before .before .before .before .before .before .before .before .args .file)) (all-bytes (now (c .before .before .before .before .before .before .before .before .before .before .args .file)) (λ i. c .before .before .before .before .before .before .before .before .before .shared-slice-known .given i .fits)) (c .before .before .before .before .before .before .before .before .before .before .pre .layout) (c .before .before .before .before .before .before .before .before .before .before .pre .accepted) (c .before .before .before .before .before .before .before .fields-at .result) (c .before .before .before .before .before .before .before .fields-at .ensures)), omega (arith, c .before .before .before .before .before .loop .inv .1, c .before .before .before .before .before .before .before .before .before .before .pre .room, samples-are (now (c .before .before .before .before .before .before .before .before .before .before .args .file)) (all-bytes (now (c .before .before .before .before .before .before .before .before .before .before .args .file)) (λ i. c .before .before .before .before .before .before .before .before .before .shared-slice-known .given i .fits)) (c .before .before .before .before .before .before .before .before .before .before .pre .layout) (c .before .before .before .before .before .before .before .before .before .before .pre .accepted) (c .before .before .before .before .before .before .before .fields-at .result) (c .before .before .before .before .before .before .before .fields-at .ensures))), (omega (arith, kind-known (now (c .before .before .before .before .before .before .before .before .before .before .args .file)) (all-bytes (now (c .before .before .before .before .before .before .before .before .before .before .args .file)) (λ i. c .before .before .before .before .before .before .before .before .before .shared-slice-known .given i .fits)) (c .before .before .before .before .before .before .before .before .before .before .pre .layout) (c .before .before .before .before .before .before .before .before .before .before .pre .accepted) (file-variant (c .before .before .before .before .before .loop .v)) (omega (arith, count-is (now (c .before .before .before .before .before .before .before .before .before .before .args .file)) (all-bytes (now (c .before .before .before .before .before .before .before .before .before .before .args .file)) (λ i. c .before .before .before .before .before .before .before .before .before .shared-slice-known .given i .fits)) (c .before .before .before .before .before .before .before .before .before .before .pre .layout) (c .before .before .before .before .before .before .before .before .before .before .pre .accepted) (c .before .before .before .before .before .before .before .fields-at .result) (c .before .before .before .before .before .before .before .fields-at .ensures), c .before .before .before .before .loop-test .taken)) .0, ap (λ (z : Extent). z .kind) (c .before .before .before .extent-of .ensures (c .before .before .before .before .before .before .before .before .before .before .pre .layout) (c .before .before .before .before .before .before .before .before .before .before .pre .accepted))), λ z. kind-known (now (c .before .before .before .before .before .before .before .before .before .before .args .file)) (all-bytes (now (c .before .before .before .before .before .before .before .before .before .before .args .file)) (λ i. c .before .before .before .before .before .before .before .before .before .shared-slice-known .given i .fits)) (c .before .before .before .before .before .before .before .before .before .before .pre .layout) (c .before .before .before .before .before .before .before .before .before .before .pre .accepted) (file-variant (c .before .before .before .before .before .loop .v)) (omega (arith, count-is (now (c .before .before .before .before .before .before .before .before .before .before .args .file)) (all-bytes (now (c .before .before .before .before .before .before .before .before .before .before .args .file)) (λ i. c .before .before .before .before .before .before .before .before .before .shared-slice-known .given i .fits)) (c .before .before .before .before .before .before .before .before .before .before .pre .layout) (c .before .before .before .before .before .before .before .before .before .before .pre .accepted) (c .before .before .before .before .before .before .before .fields-at .result) (c .before .before .before .before .before .before .before .fields-at .ensures), c .before .before .before .before .loop-test .taken)) .1 (sym (ap (λ (z : Extent). z .kind) (c .before .before .before .extent-of .ensures (c .before .before .before .before .before .before .before .before .before .before .pre .layout) (c .before .before .before .before .before .before .before .before .before .before .pre .accepted))) ∙ z)))
+read-body-requires c κs =
+    let args = c .before .before .before .before .before .before .before .before .before .before .args in
+    let shared-slice-known = c .before .before .before .before .before .before .before .before .before .shared-slice-known in
+    let pre = c .before .before .before .before .before .before .before .before .before .before .pre in
+    let loop = c .before .before .before .before .before .loop in
+    let fields-at = c .before .before .before .before .before .before .before .fields-at in
+    let loop-test = c .before .before .before .before .loop-test in
+    let extent-of = c .before .before .before .extent-of in
+    let bs = now (args .file) in
+    let y = all-bytes bs (λ i. shared-slice-known .given i .fits) in
+    let l = pre .layout in
+    let a = pre .accepted in (
+      (
+        omega (
+          arith,
+          cut-end bs y l a (file-variant (loop .v)) (omega (
+            arith,
+            count-is bs y l a (fields-at .result) (fields-at .ensures),
+            loop-test
+                .taken,
+          )) (loop .start) (loop .start + (extent-of .result) .size) ((extent-of .result) .kind) (its-place bs y l a (now (args .row)) (loop
+              .row) (loop .v) (loop .start) (loop .inv .0 l a) (omega (
+                arith,
+                count-is bs y l a (fields-at .result) (fields-at .ensures),
+                loop-test
+                    .taken,
+              )) (extent-of .result) (extent-of .ensures l a)),
+        ),
+        omega (
+          arith,
+          few-samples bs y l a,
+          samples-are bs y l a (fields-at .result)
+              (fields-at .ensures),
+        ),
+        omega (arith, loop .inv .1, pre .room, samples-are bs y l a (fields-at .result) (fields-at .ensures)),
+      ),
+      (
+        omega (
+          arith,
+          kind-known bs y l a (file-variant (loop .v)) (omega (arith, count-is bs y l a (fields-at .result) (fields-at .ensures), loop-test .taken)) .0,
+          ap (λ (z : Extent). z .kind) (extent-of .ensures l a),
+        ),
+        λ z. kind-known bs y l a (file-variant (loop .v)) (omega (
+          arith,
+          count-is bs y l a
+              (fields-at .result) (fields-at .ensures),
+          loop-test .taken,
+        )) .1 (sym (ap (λ (z : Extent). z .kind) (extent-of .ensures l a)) ∙ z),
+      ),
+    )
 
 enum-known-got : tie.Need-enum-known-got Inv-loop μ-loop
 enum-known-got c = search needs
+
+clear-requires : tie.Need-clear-requires Inv-loop μ-loop
+clear-requires c κs =
+    let args = c .before .before .before .before .before .before .before .before .before .before .before .before .before .before .before .before .before .args in
+    let shared-slice-known = c .before .before .before .before .before .before .before .before .before .before .before .before .before .before .before .before .shared-slice-known in
+    let pre = c .before .before .before .before .before .before .before .before .before .before .before .before .before .before .before .before .before .pre in
+    let loop = c .before .before .before .before .before .before .before .before .before .before .before .before .loop in
+    let read-body = c .before .before .before .before .before .before .read-body in
+    let fields-at = c .before .before .before .before .before .before .before .before .before .before .before .before .before .before .fields-at in
+    let bs = now (args .file) in
+    let y = all-bytes bs (λ i. shared-slice-known .given i .fits) in
+    let l = pre .layout in
+    let a = pre .accepted in
+    omega (arith, loop .inv .1, pre .room, read-body .kept .1 .1 .1 .1 .1 .0, samples-are bs y l a (fields-at .result) (fields-at .ensures))
 
 same-length : tie.Need-same-length Inv-loop μ-loop
 same-length c = search needs
 
 returns : tie.Need-returns Inv-loop μ-loop
-returns c = λ l q. stops (now (c .before .before .before .before .before .before .before .before .before .before .before .before .before .before .before .before .args .file)) (all-bytes (now (c .before .before .before .before .before .before .before .before .before .before .before .before .before .before .before .before .args .file)) (λ i. c .before .before .before .before .before .before .before .before .before .before .before .before .before .before .before .shared-slice-known .given i .fits)) l q (now (c .before .before .before .before .before .before .before .before .before .before .before .before .before .before .before .before .args .row)) (c .before .before .before .before .before .before .before .before .before .before .before .loop .row) (c .before .before .before .before .before .before .before .before .before .before .before .loop .v) (c .before .before .before .before .before .before .before .before .before .before .before .loop .start) (c .before .before .before .before .before .before .before .before .before .before .before .loop .inv .0 l q) (omega (arith, count-is (now (c .before .before .before .before .before .before .before .before .before .before .before .before .before .before .before .before .args .file)) (all-bytes (now (c .before .before .before .before .before .before .before .before .before .before .before .before .before .before .before .before .args .file)) (λ i. c .before .before .before .before .before .before .before .before .before .before .before .before .before .before .before .shared-slice-known .given i .fits)) l q (c .before .before .before .before .before .before .before .before .before .before .before .before .before .fields-at .result) (c .before .before .before .before .before .before .before .before .before .before .before .before .before .fields-at .ensures), c .before .before .before .before .before .before .before .before .before .before .loop-test .taken)) (c .before .before .before .before .before .before .before .before .before .extent-of .result) (c .before .before .before .before .before .before .before .before .before .extent-of .ensures l q) (c .before .before .before .before .before .read-body .last .1 .1 .1 .1 .1 .0) (c .before .before .before .before .before .read-body .result) (c .before .before .before .before .before .read-body .ensures ∙ ap (λ (n : ℕ). recorded true n ((c .before .before .before .before .before .before .before .before .before .extent-of .result) .kind) (take (c .before .before .before .before .before .before .before .before .before .before .before .loop .start + (c .before .before .before .before .before .before .before .before .before .extent-of .result) .size) (now (c .before .before .before .before .before .before .before .before .before .before .before .before .before .before .before .before .args .file))) (c .before .before .before .before .before .before .before .before .before .before .before .loop .start) (c .before .before .before .before .before .before .before .before .before .before .before .loop .row)) (samples-are (now (c .before .before .before .before .before .before .before .before .before .before .before .before .before .before .before .before .args .file)) (all-bytes (now (c .before .before .before .before .before .before .before .before .before .before .before .before .before .before .before .before .args .file)) (λ i. c .before .before .before .before .before .before .before .before .before .before .before .before .before .before .before .shared-slice-known .given i .fits)) l q (c .before .before .before .before .before .before .before .before .before .before .before .before .before .fields-at .result) (c .before .before .before .before .before .before .before .before .before .before .before .before .before .fields-at .ensures))) (c .before .got .given .0 .0) (c .before .got .given .0 .1 .0) (c .before .got .given .1)
+returns c =
+    let args = c .before .before .before .before .before .before .before .before .before .before .before .before .before .before .before .before .before .before .before .before .args in
+    let shared-slice-known = c .before .before .before .before .before .before .before .before .before .before .before .before .before .before .before .before .before .before .before .shared-slice-known in
+    let loop = c .before .before .before .before .before .before .before .before .before .before .before .before .before .before .before .loop in
+    let fields-at = c .before .before .before .before .before .before .before .before .before .before .before .before .before .before .before .before .before .fields-at in
+    let loop-test = c .before .before .before .before .before .before .before .before .before .before .before .before .before .before .loop-test in
+    let extent-of = c .before .before .before .before .before .before .before .before .before .before .before .before .before .extent-of in
+    let read-body = c .before .before .before .before .before .before .before .before .before .read-body in
+    let got = c .before .before .before .before .before .got in
+    let clear = c .before .before .clear in
+    let bs = now (args .file) in
+    let y = all-bytes bs (λ i. shared-slice-known .given i .fits) in
+    λ l q. stops bs y l q (now (args .row)) (loop .row) (loop .v) (loop .start) (loop .inv .0 l q) (omega (
+      arith,
+      count-is bs y l q (fields-at
+          .result) (fields-at .ensures),
+      loop-test .taken,
+    )) (extent-of .result) (extent-of .ensures l q) (read-body .last .1 .1 .1 .1 .1 .0)
+    (read-body .result) (read-body .ensures ∙ ap (λ (n : ℕ). recorded true n ((extent-of .result) .kind) (take (loop .start + (extent-of .result)
+    .size) bs) (loop .start) (loop .row)) (samples-are bs y l q (fields-at .result) (fields-at .ensures))) (got .given .0 .0) (got .given .0 .1
+    .0) (clear .last .0) (got .given .1) (clear .ensures ∙ ap (λ (n : ℕ). replicate n 0 ++ drop n (read-body .last .1 .1 .1 .1 .1 .0))
+    (samples-are bs y l q (fields-at .result) (fields-at .ensures)))
 
 enum-told : tie.Need-enum-told Inv-loop μ-loop
 enum-told c = search needs
@@ -74,16 +234,62 @@ loop-less : tie.Need-loop-less Inv-loop μ-loop
 loop-less c = search needs
 
 loop-again : tie.Need-loop-again Inv-loop μ-loop
-loop-again c = (λ l q. goes-on (now (c .before .before .before .before .before .before .before .before .before .before .before .before .before .before .before .args .file)) (all-bytes (now (c .before .before .before .before .before .before .before .before .before .before .before .before .before .before .before .args .file)) (λ i. c .before .before .before .before .before .before .before .before .before .before .before .before .before .before .shared-slice-known .given i .fits)) l q (now (c .before .before .before .before .before .before .before .before .before .before .before .before .before .before .before .args .row)) (c .before .before .before .before .before .before .before .before .before .before .loop .row) (c .before .before .before .before .before .before .before .before .before .before .loop .v) (c .before .before .before .before .before .before .before .before .before .before .loop .start) (c .before .before .before .before .before .before .before .before .before .before .loop .inv .0 l q) (omega (arith, count-is (now (c .before .before .before .before .before .before .before .before .before .before .before .before .before .before .before .args .file)) (all-bytes (now (c .before .before .before .before .before .before .before .before .before .before .before .before .before .before .before .args .file)) (λ i. c .before .before .before .before .before .before .before .before .before .before .before .before .before .before .shared-slice-known .given i .fits)) l q (c .before .before .before .before .before .before .before .before .before .before .before .before .fields-at .result) (c .before .before .before .before .before .before .before .before .before .before .before .before .fields-at .ensures), c .before .before .before .before .before .before .before .before .before .loop-test .taken)) (c .before .before .before .before .before .before .before .before .extent-of .result) (c .before .before .before .before .before .before .before .before .extent-of .ensures l q) (c .before .before .before .before .read-body .last .1 .1 .1 .1 .1 .0) (c .before .before .before .before .read-body .result) (c .before .before .before .before .read-body .ensures ∙ ap (λ (n : ℕ). recorded true n ((c .before .before .before .before .before .before .before .before .extent-of .result) .kind) (take (c .before .before .before .before .before .before .before .before .before .before .loop .start + (c .before .before .before .before .before .before .before .before .extent-of .result) .size) (now (c .before .before .before .before .before .before .before .before .before .before .before .before .before .before .before .args .file))) (c .before .before .before .before .before .before .before .before .before .before .loop .start) (c .before .before .before .before .before .before .before .before .before .before .loop .row)) (samples-are (now (c .before .before .before .before .before .before .before .before .before .before .before .before .before .before .before .args .file)) (all-bytes (now (c .before .before .before .before .before .before .before .before .before .before .before .before .before .before .before .args .file)) (λ i. c .before .before .before .before .before .before .before .before .before .before .before .before .before .before .shared-slice-known .given i .fits)) l q (c .before .before .before .before .before .before .before .before .before .before .before .before .fields-at .result) (c .before .before .before .before .before .before .before .before .before .before .before .before .fields-at .ensures))) (c .enum-told .given .1), search (needs, c .before .before .before .before .before .before .before .before .before .before .loop .inv .1))
+loop-again c =
+    let args = c .before .before .before .before .before .before .before .before .before .before .before .before .before .before .before .args in
+    let shared-slice-known = c .before .before .before .before .before .before .before .before .before .before .before .before .before .before .shared-slice-known in
+    let loop = c .before .before .before .before .before .before .before .before .before .before .loop in
+    let fields-at = c .before .before .before .before .before .before .before .before .before .before .before .before .fields-at in
+    let loop-test = c .before .before .before .before .before .before .before .before .before .loop-test in
+    let extent-of = c .before .before .before .before .before .before .before .before .extent-of in
+    let read-body = c .before .before .before .before .read-body in
+    let enum-told = c .enum-told in
+    let bs = now (args .file) in
+    let y = all-bytes bs (λ i. shared-slice-known .given i .fits) in (
+      λ l q. goes-on bs y l q (now (args .row)) (loop .row) (loop .v) (loop .start) (loop .inv .0 l q) (omega (
+        arith,
+        count-is bs y l q
+            (fields-at .result) (fields-at .ensures),
+        loop-test .taken,
+      )) (extent-of .result) (extent-of .ensures l q) (read-body .last .1 .1 .1 .1 .1
+          .0) (read-body .result) (read-body .ensures ∙ ap (λ (n : ℕ). recorded true n ((extent-of .result) .kind) (take (loop .start + (extent-of
+          .result) .size) bs) (loop .start) (loop .row)) (samples-are bs y l q (fields-at .result) (fields-at .ensures))) (enum-told .given .1),
+      search
+          (needs, loop .inv .1),
+    )
 
-clear-requires : tie.Need-clear-requires Inv-loop μ-loop
-clear-requires c κs = omega (arith, c .before .before .loop .inv .1, c .before .before .before .before .before .before .before .pre .room, samples-are (now (c .before .before .before .before .before .before .before .args .file)) (all-bytes (now (c .before .before .before .before .before .before .before .args .file)) (λ i. c .before .before .before .before .before .before .shared-slice-known .given i .fits)) (c .before .before .before .before .before .before .before .pre .layout) (c .before .before .before .before .before .before .before .pre .accepted) (c .before .before .before .before .fields-at .result) (c .before .before .before .before .fields-at .ensures))
+clear-requires-2 : tie.Need-clear-requires-2 Inv-loop μ-loop
+clear-requires-2 c κs =
+    let args = c .before .before .before .before .before .before .before .args in
+    let shared-slice-known = c .before .before .before .before .before .before .shared-slice-known in
+    let pre = c .before .before .before .before .before .before .before .pre in
+    let loop = c .before .before .loop in
+    let fields-at = c .before .before .before .before .fields-at in
+    let bs = now (args .file) in
+    let y = all-bytes bs (λ i. shared-slice-known .given i .fits) in
+    let l = pre .layout in
+    let a = pre .accepted in
+    omega (arith, loop .inv .1, pre .room, samples-are bs y l a (fields-at .result) (fields-at .ensures))
 
 same-length-2 : tie.Need-same-length-2 Inv-loop μ-loop
 same-length-2 c = search needs
 
 returns-2 : tie.Need-returns-2 Inv-loop μ-loop
-returns-2 c = λ l q. ap (done Accepted) (c .before .before .clear .ensures ∙ ap (λ (n : ℕ). replicate n 0 ++ drop n (c .before .before .before .before .before .loop .row)) (samples-are (now (c .before .before .before .before .before .before .before .before .before .before .args .file)) (all-bytes (now (c .before .before .before .before .before .before .before .before .before .before .args .file)) (λ i. c .before .before .before .before .before .before .before .before .before .shared-slice-known .given i .fits)) l q (c .before .before .before .before .before .before .before .fields-at .result) (c .before .before .before .before .before .before .before .fields-at .ensures))) ∙ ends (now (c .before .before .before .before .before .before .before .before .before .before .args .file)) (all-bytes (now (c .before .before .before .before .before .before .before .before .before .before .args .file)) (λ i. c .before .before .before .before .before .before .before .before .before .shared-slice-known .given i .fits)) l q (now (c .before .before .before .before .before .before .before .before .before .before .args .row)) (c .before .before .before .before .before .loop .row) (c .before .before .before .before .before .loop .v) (c .before .before .before .before .before .loop .start) (omega (arith, count-is (now (c .before .before .before .before .before .before .before .before .before .before .args .file)) (all-bytes (now (c .before .before .before .before .before .before .before .before .before .before .args .file)) (λ i. c .before .before .before .before .before .before .before .before .before .shared-slice-known .given i .fits)) l q (c .before .before .before .before .before .before .before .fields-at .result) (c .before .before .before .before .before .before .before .fields-at .ensures), c .before .before .before .before .loop-test .left)) (c .before .before .before .before .before .loop .inv .0 l q)
+returns-2 c =
+    let args = c .before .before .before .before .before .before .before .before .before .before .args in
+    let shared-slice-known = c .before .before .before .before .before .before .before .before .before .shared-slice-known in
+    let clear2 = c .before .before .clear2 in
+    let loop = c .before .before .before .before .before .loop in
+    let fields-at = c .before .before .before .before .before .before .before .fields-at in
+    let loop-test = c .before .before .before .before .loop-test in
+    let bs = now (args .file) in
+    let y = all-bytes bs (λ i. shared-slice-known .given i .fits) in
+    λ l q. ap (done Accepted) (clear2 .ensures ∙ ap (λ (n : ℕ). replicate n 0 ++ drop n (loop .row)) (samples-are bs y l q (fields-at .result)
+    (fields-at .ensures))) ∙ ends bs y l q (now (args .row)) (loop .row) (loop .v) (loop .start) (omega (
+      arith,
+      count-is bs y l q (fields-at
+          .result) (fields-at .ensures),
+      loop-test .left,
+    )) (loop .inv .0 l q)
 
 pub check-records-spec : {M : Type 1} → statement M
 check-records-spec =
@@ -99,12 +305,13 @@ check-records-spec =
     slice-aggregate-read-body
     read-body-requires
     enum-known-got
+    clear-requires
     same-length
     returns
     enum-told
     add-v
     loop-less
     loop-again
-    clear-requires
+    clear-requires-2
     same-length-2
     returns-2)
