@@ -1,3 +1,4 @@
 pub mod ByteLaws
 pub mod WithinLaws
 pub mod VarintLaws
+pub mod ShortLaws

@@ -78,7 +78,25 @@ impl Cursor {
         requires { ⌜ self .at ≤ length (now s) ⌝ }
         ensures { λ r. ⌜ r ≡ varint-at (now (s .entry)) (self .at) ⌝ }
     {
+        // one byte and two, by far the commonest, are read here, where no call is needed
         let first = self.at;
+        if first < s.len() {
+            let low = s[first];
+            if low < 128 {
+                return VarintStep::Value(low as usize, Cursor { at: first + 1 });
+            }
+            if first + 1 < s.len() {
+                let high = s[first + 1];
+                if high < 128 {
+                    if 1 <= high {
+                        return VarintStep::Value(
+                            128 * (high as usize) + (low - 128) as usize,
+                            Cursor { at: first + 2 },
+                        );
+                    }
+                }
+            }
+        }
         varint_from(s, first, 4, 0, self)
     }
 }

@@ -2,9 +2,12 @@
 -- Assumes nothing.
 use mathlib.Core.Path.{_≡_}
 use Prim.Native.Nat.{ℕ, _+_, _-_, _*_, _/_, _≤_, _<_}
+use mathlib.Core.Bool.{true}
 use mathlib.Core.List.{List}
-use lib.ListN.{length}
+use lib.ListN.{length, getD}
 use Rattle.format.specs.Difflist.{number-width}
+use Rattle.difflist.specs.Entries.{value-at, allows}
+use Rattle.difflist.specs.declared.ListRule.{ListRule}
 use Rattle.difflist.specs.declared.State.{State}
 
 -- the head and the size byte are there where a group begins
@@ -27,3 +30,12 @@ pub record Room (l : List ℕ) (n vals more : ℕ) (st : State) : Type 0 where
   pub values : vals + (st .passed + more + 3) / 4 ≤ length l
   pub heads : st .head + number-width n * ((more + (63 - st .room)) / 64) ≤ length l
   pub sizes : st .size + (more + (63 - st .room)) / 64 ≤ vals + (1 - st .passed)
+
+-- the next entry is a step of one byte, and is accepted
+pub record Short (l : List ℕ) (n vals : ℕ) (held : ListRule) (st : State) (row : List ℕ) : Type 0 where
+  pub step : st .room ≡ 0 → ⊥
+  pub inside : st .at < length l
+  pub rises : getD l (st .at) 0 ≡ 0 → ⊥
+  pub byte : getD l (st .at) 0 < 128
+  pub below : getD l (st .at) 0 < n - st .last
+  pub allowed : allows held (getD row (st .last + getD l (st .at) 0) 0) (value-at l vals (st .passed)) ≡ true

@@ -4,15 +4,18 @@ use crate::EntryStep;
 use crate::ListRule;
 use crate::ListStep;
 use crate::State;
+use crate::Walk;
 use cursor::Cursor;
 use cursor::VarintStep;
 ghost use mathlib.Core.Path.{_≡_};
+ghost use mathlib.Core.Bool.{true};
 ghost use Prim.Native.Nat.{_+_, _/_, _≤_, _<_};
 ghost use lib.ListN.{length};
 ghost use Rattle.format.specs.Difflist.{number-width};
 ghost use Rattle.cursor.specs.Steps.{varint-at};
 ghost use Rattle.difflist.specs.declared.EntryStep.the-variants.{On};
-ghost use Rattle.difflist.specs.Room.{Room, Ready};
+ghost use Rattle.difflist.specs.Room.{Room, Ready, Short};
+ghost use Rattle.difflist.specs.Walked.{Walked};
 ghost use Rattle.difflist.specs.Entries.{number-at, allows, take-head, take-step, next-sample, turn, kept, put-value, next-entry, out, all-entries};
 
 // 01, Difference lists: "1 byte if N is at most 256, else 2".
@@ -192,6 +195,68 @@ fn next_entry(
     }
 }
 
+// Whether the next entry is a step of one byte, and is accepted: by far the commonest.
+fn is_short(s: &[u8], n: usize, values: usize, held: ListRule, st: State, row: &[u8]) -> bool
+    requires { ⌜ (st .last < n) × (n ≤ length (now row)) ⌝ }
+    requires { ⌜ values + st .passed / 4 < length (now s) ⌝ }
+    ensures { λ r. ⌜ (r ≡ true → Short (now (s .entry)) n values held st (now (row .entry))) ⌝ }
+{
+    let at = st.at;
+    let last = st.last;
+    if st.room == 0 {
+        return false;
+    }
+    if at >= s.len() {
+        return false;
+    }
+    let step = s[at] as usize;
+    if step == 0 {
+        return false;
+    }
+    if step >= 128 {
+        return false;
+    }
+    if step >= n - last {
+        return false;
+    }
+    let value = packed::two_bits(s, values, st.passed);
+    may_hold(held, row[last + step], value)
+}
+
+// Such entries, as many as come one after another: a loop of its own, since it needs to carry so little.
+fn short_steps(
+    s: &[u8],
+    n: usize,
+    values: usize,
+    store: bool,
+    held: ListRule,
+    first: State,
+    count: usize,
+    row: &mut [u8],
+) -> Walk
+    requires { ⌜ Room (now s) n values count first ⌝ }
+    requires { ⌜ n ≤ length (now row) ⌝ }
+    ensures { λ r. ⌜ Walked (now (s .entry)) n values store held (length (now (row .entry))) (all-entries count (now (s .entry)) n values store held first (now (row .entry))) (now (row .exit)) (r .st) (r .more) × (r .more ≤ count) ⌝ }
+{
+    let mut st = first;
+    let mut more = count;
+    while more > 0 {
+        if !is_short(s, n, values, held, st, &row[..]) {
+            return Walk { st, more };
+        }
+        let at = st.at;
+        let passed = st.passed;
+        let last = st.last + s[at] as usize;
+        keep(row, last, packed::two_bits(s, values, passed), store);
+        st.room = st.room - 1;
+        st.last = last;
+        st.passed = passed + 1;
+        st.at = at + 1;
+        more = more - 1;
+    }
+    Walk { st, more }
+}
+
 // All entries, one after another.
 pub fn all_entries(
     s: &[u8],
@@ -216,8 +281,9 @@ pub fn all_entries(
                 return ListStep::Refused { number, place };
             }
             EntryStep::On(next) => {
-                st = next;
-                more = more - 1;
+                let walk = short_steps(s, n, values, store, held, next, more - 1, row);
+                st = walk.st;
+                more = walk.more;
             }
         }
     }

@@ -40,6 +40,12 @@ pub struct State {
     pub at: usize,
 }
 
+// Such a place, with how many entries are still to come in the list.
+pub struct Walk {
+    pub st: State,
+    pub more: usize,
+}
+
 pub enum EntryStep {
     On(State),
     Stop { number: u8, place: usize },

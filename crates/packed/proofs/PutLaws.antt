@@ -10,7 +10,7 @@ use lib.ListN.{getD, length, set, take, drop}
 use borrow.Author.Tests.{eq-eqb, ne-eqb}
 use Rattle.format.specs.Category.{exchange}
 use Rattle.format.specs.Packed.{one, two}
-use Rattle.packed.specs.Arrays.{number-in, tabulate, store}
+use Rattle.packed.specs.Arrays.{number-in, tabulate, store, Spread}
 use Rattle.packed.specs.Unpacked.{of-pair}
 use Rattle.packed.proofs.StoreLaws.{store-four, store-both, stored-is}
 
@@ -24,13 +24,10 @@ four-power (suc r) =
     let c : 4 ^ suc r ≡ 4 ^ r * 4 = pow-suc 4 r in
     rw e (omega (arith, four-power r))
 
--- four bytes made one number, and taken out of it again
+-- four bytes made one number
 module _ (a b c d : ℕ) (p : a < 256) (q : b < 256) (r : c < 256) where
   abbrev whole : ℕ
   whole = a + 256 * b + 65536 * c + 16777216 * d
-
-  first : whole % 256 ≡ a
-  first = omega arith
 
   second : whole / 256 % 256 ≡ b
   second = let e : whole / 256 ≡ b + 256 * c + 65536 * d = omega arith in rw e (omega arith)
@@ -38,13 +35,18 @@ module _ (a b c d : ℕ) (p : a < 256) (q : b < 256) (r : c < 256) where
   third : whole / 65536 % 256 ≡ c
   third = let e : whole / 65536 ≡ c + 256 * d = omega arith in rw e (omega arith)
 
-  fourth : whole / 16777216 ≡ d
-  fourth = omega arith
+  pub spread-out : Spread whole a b c d
+  spread-out = (omega arith, second, third, omega arith)
 
-  pub four-put : (row : List ℕ) (at : ℕ)
-      → set (set (set (set row at (whole % 256)) (at + 1) (whole / 256 % 256)) (at + 2) (whole / 65536 % 256)) (at + 3) (whole / 16777216)
-      ≡ set (set (set (set row at a) (at + 1) b) (at + 2) c) (at + 3) d
-  four-put row at = rw (first, second, third, fourth)
+-- and stored
+pub spread-put : (x a b c d : ℕ) → Spread x a b c d → (row : List ℕ) (at : ℕ)
+    → set (set (set (set row at (x % 256)) (at + 1) (x / 256 % 256)) (at + 2) (x / 65536 % 256)) (at + 3) (x / 16777216)
+    ≡ set (set (set (set row at a) (at + 1) b) (at + 2) c) (at + 3) d
+spread-put x a b c d h row at = rw (h .0, h .1, h .2, h .3)
+
+-- the high half of a byte's bits
+pub high-half : (x b : ℕ) → b < 256 → Spread x (b / 16 % 2) (b / 16 / 2 % 2) (b / 16 / 4 % 2) (b / 16 / 8 % 2) → Spread x (b / 16 % 2) (b / 32 % 2) (b / 64 % 2) (b / 128)
+high-half x b y h = (h .0, h .1 ∙ omega arith, h .2 ∙ omega arith, h .3 ∙ omega arith)
 
 -- ---- the numbers of one byte
 

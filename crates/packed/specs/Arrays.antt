@@ -1,5 +1,6 @@
 -- A packed array by position, and numbers stored one after another. (That this is the format's own reading is proofs/ReadsAt.)
 -- Assumes nothing.
+use mathlib.Core.Path.{_≡_}
 use Prim.Native.Nat.{ℕ, zero, suc, _+_, _/_, _%_, _^_}
 use mathlib.Core.List.{List, [], _∷_}
 use lib.ListN.{getD, set}
@@ -29,3 +30,7 @@ tabulate f (suc m) k = f k ∷ tabulate f m (k + 1)
 unfoldable pub store : (ℕ → ℕ) → ℕ → ℕ → List ℕ → List ℕ
 store f zero k row = row
 store f (suc m) k row = store f m (k + 1) (set row k (f k))
+
+-- a number whose four bytes, the lowest first, are these
+abbrev pub Spread : ℕ → ℕ → ℕ → ℕ → ℕ → Type 0
+Spread x a b c d = (x % 256 ≡ a) × (x / 256 % 256 ≡ b) × (x / 65536 % 256 ≡ c) × (x / 16777216 ≡ d)

@@ -1,13 +1,13 @@
 // Packed arrays and rows of categories: an array checked and unpacked, a row filled, copied, exchanged. Every slice `s` is the file cut where
 // the record ends, so that its length is the record's end.
 ghost use mathlib.Core.Path.{_≡_};
-ghost use Prim.Native.Nat.{suc, _+_, _-_, _*_, _/_, _≤_, _<_};
+ghost use Prim.Native.Nat.{suc, _+_, _-_, _*_, _/_, _%_, _≤_, _<_};
 ghost use mathlib.Core.Bool.{true};
 ghost use mathlib.Core.List.{_++_, map};
 ghost use lib.ListN.{length, set, take, drop, replicate};
 ghost use Rattle.format.specs.Category.{exchange, exchange-all};
 ghost use Rattle.format.specs.Packed.{one, two, more, packed-size};
-ghost use Rattle.packed.specs.Arrays.{bits-of, number-in, unused, tabulate, store};
+ghost use Rattle.packed.specs.Arrays.{bits-of, number-in, unused, tabulate, store, Spread};
 ghost use Rattle.packed.specs.Unpacked.{array-at, out, unpacked-two, unpacked-one, of-pair};
 
 // How many bits a number of an array has.
@@ -104,12 +104,27 @@ fn check(s: &[u8], at: usize, n: usize, width: Width) -> PackedStep
     PackedStep::Next(at + size)
 }
 
-// Four bytes one after another, from one number: the compiler stores them at once.
-fn put_four(row: &mut [u8], at: usize, a: u8, b: u8, c: u8, d: u8)
-    requires { ⌜ at + 4 ≤ length (now row) ⌝ }
-    ensures { λ _. ⌜ now (row .exit) ≡ set (set (set (set (now (row .entry)) at a) (at + 1) b) (at + 2) c) (at + 3) d ⌝ }
+// The four two-bit numbers of a byte, one to each byte of a wider number.
+fn spread_quad(b: u8) -> u32
+    ensures { λ r. ⌜ Spread r (b % 4) (b / 4 % 4) (b / 16 % 4) (b / 64) ⌝ }
 {
-    let x = (a as u32) + 256 * (b as u32) + 65536 * (c as u32) + 16777216 * (d as u32);
+    let x = b as u32;
+    x % 4 + 256 * (x / 4 % 4) + 65536 * (x / 16 % 4) + 16777216 * (x / 64)
+}
+
+// The four low bits of a byte, likewise.
+fn spread_bits(b: u8) -> u32
+    ensures { λ r. ⌜ Spread r (b % 2) (b / 2 % 2) (b / 4 % 2) (b / 8 % 2) ⌝ }
+{
+    let x = b as u32;
+    x % 2 + 256 * (x / 2 % 2) + 65536 * (x / 4 % 2) + 16777216 * (x / 8 % 2)
+}
+
+// Its four bytes one after another: the compiler stores them at once, and several such in one step of the loops below.
+fn put_four(row: &mut [u8], at: usize, x: u32)
+    requires { ⌜ at + 4 ≤ length (now row) ⌝ }
+    ensures { λ _. ⌜ now (row .exit) ≡ set (set (set (set (now (row .entry)) at (x % 256)) (at + 1) (x / 256 % 256)) (at + 2) (x / 65536 % 256)) (at + 3) (x / 16777216) ⌝ }
+{
     row[at] = (x % 256) as u8;
     row[at + 1] = (x / 256 % 256) as u8;
     row[at + 2] = (x / 65536 % 256) as u8;
@@ -122,8 +137,7 @@ fn store_quads(s: &[u8], at: usize, full: usize, row: &mut [u8])
     ensures { λ _. ⌜ now (row .exit) ≡ store (number-in two (now (s .entry)) at) (4 * full) 0 (now (row .entry)) ⌝ }
 {
     for i in 0..full {
-        let b = s[at + i];
-        put_four(row, 4 * i, b % 4, b / 4 % 4, b / 16 % 4, b / 64);
+        put_four(row, 4 * i, spread_quad(s[at + i]));
     }
 }
 
@@ -134,8 +148,8 @@ fn store_octets(s: &[u8], at: usize, full: usize, row: &mut [u8])
 {
     for i in 0..full {
         let b = s[at + i];
-        put_four(row, 8 * i, b % 2, b / 2 % 2, b / 4 % 2, b / 8 % 2);
-        put_four(row, 8 * i + 4, b / 16 % 2, b / 32 % 2, b / 64 % 2, b / 128);
+        put_four(row, 8 * i, spread_bits(b));
+        put_four(row, 8 * i + 4, spread_bits(b / 16));
     }
 }
 

@@ -30,7 +30,7 @@ use Rattle.reader.proofs.Cut.{obeys, body-is-bytes, recorded-is}
 use Rattle.reader.proofs.Replies.{row-of, reply-of, refusal}
 
 -- a record that is read, not only checked
-read-too : (b : Bool) (N : ℕ) (row : List ℕ) (m : Out Body) → replied (b && false) N row m ≡ row-left N row (map-out (body-categories N (take N row)) m)
+pub read-too : (b : Bool) (N : ℕ) (row : List ℕ) (m : Out Body) → replied (b && false) N row m ≡ row-left N row (map-out (body-categories N (take N row)) m)
 read-too true N row (ok body left) = refl
 read-too false N row (ok body left) = refl
 read-too true N row (refuse number place) = refl

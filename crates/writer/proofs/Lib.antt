@@ -4,3 +4,4 @@ pub mod SizeLaws
 pub mod CallLaws
 pub mod Allowed
 pub mod Promises
+pub mod LargestLaws

@@ -11,8 +11,8 @@ use listwriter::ListSize;
 use listwriter::list_size;
 use listwriter::put_list;
 ghost use mathlib.Core.Path.{_≡_};
-ghost use Prim.Native.Nat.{_≤_};
-ghost use lib.ListN.{length};
+ghost use Prim.Native.Nat.{ℕ, _≤_, _<_};
+ghost use lib.ListN.{length, getD};
 ghost use Rattle.format.specs.Base.{pick};
 ghost use Rattle.format.specs.PairCode.{code-numbered};
 ghost use Rattle.format.specs.Track.{leans};
@@ -94,10 +94,32 @@ fn anchor_size(kind: usize, samples: usize) -> usize
     0
 }
 
+fn larger(a: u8, b: u8) -> u8
+    ensures { λ r. ⌜ (a ≤ r) × (b ≤ r) ⌝ }
+{
+    if a < b { b } else { a }
+}
+
+// A bound of all categories, the largest: one flat loop with no exit, as categories above 3 are rare.
+fn largest(categories: &[u8]) -> u8
+    ensures { λ r. ⌜ ((i : ℕ) → i < length (now (categories .entry)) → getD (now (categories .entry)) i 0 ≤ r) ⌝ }
+{
+    let mut most: u8 = 0;
+    let mut i: usize = 0;
+    while i < categories.len() {
+        most = larger(most, categories[i]);
+        i = i + 1;
+    }
+    most
+}
+
 // 01: 20, "category above 3", at "its index". The index of the first such category, else how many there are.
-fn first_above_3(categories: &[u8]) -> usize
+pub fn first_above_3(categories: &[u8]) -> usize
     ensures { λ r. ⌜ r ≡ first-above (now (categories .entry)) ⌝ }
 {
+    if largest(categories) <= 3 {
+        return categories.len();
+    }
     let mut i: usize = 0;
     while i < categories.len() {
         if categories[i] > 3 {

@@ -3,11 +3,11 @@
 use Rattle.packed.proofs.PutLaws.{none-stored}
 use native.Mathlib.Omega.{arith}
 use borrow.Author.Needs.{needs}
-use Rattle.packed.proofs.PutLaws.{octet-turn, rest-done}
+use Rattle.packed.proofs.PutLaws.{spread-put, high-half, octet-turn, rest-done}
 use Rattle.format.specs.Packed.{one}
 use Rattle.packed.specs.Arrays.{number-in, store}
-use lib.ListN.{length}
-use Prim.Native.Nat.{_-_, _*_, _≤_}
+use lib.ListN.{length, getD}
+use Prim.Native.Nat.{ℕ, _+_, _-_, _*_, _/_, _%_, _≤_}
 use mathlib.Core.Path.{_≡_, refl, _∙_}
 use Rattle.packed.proofs.store_octets.Statement.{statement}
 use Rattle.packed.proofs.store_octets.Tie as tie
@@ -32,6 +32,9 @@ shared-slice-read-b c = search needs
 mul-put-four : tie.Need-mul-put-four Inv-loop μ-loop
 mul-put-four c = search needs
 
+spread-bits-requires : tie.Need-spread-bits-requires Inv-loop μ-loop
+spread-bits-requires c κs = search needs
+
 put-four-requires : tie.Need-put-four-requires Inv-loop μ-loop
 put-four-requires c κs = search needs
 
@@ -40,6 +43,9 @@ mul-put-four-2 c = search needs
 
 add-put-four : tie.Need-add-put-four Inv-loop μ-loop
 add-put-four c = search needs
+
+spread-bits-requires-2 : tie.Need-spread-bits-requires-2 Inv-loop μ-loop
+spread-bits-requires-2 c κs = search needs
 
 put-four-requires-2 : tie.Need-put-four-requires-2 Inv-loop μ-loop
 put-four-requires-2 c κs = search needs
@@ -52,11 +58,17 @@ loop-less c = search needs
 
 loop-again : tie.Need-loop-again Inv-loop μ-loop
 loop-again c =
-    let args = c .before .before .before .before .before .before .before .before .before .before .before .before .before .args in
-    let loop = c .before .before .before .before .before .before .before .before .before .before .loop in
-    let put-four = c .before .before .before .before .before .before .put-four in
+    let args = c .before .before .before .before .before .before .before .before .before .before .before .before .before .before .before .args in
+    let loop = c .before .before .before .before .before .before .before .before .before .before .before .before .loop in
+    let spread-bits = c .before .before .before .before .before .before .before .before .spread-bits in
+    let put-four = c .before .before .before .before .before .before .before .put-four in
+    let spread-bits2 = c .before .before .before .spread-bits2 in
     let put-four2 = c .before .before .put-four2 in
-    (omega arith, (put-four2 .kept .0 ∙ put-four .kept .0 ∙ loop .inv .1 .0, octet-turn (args .s .now) (args .at) (args .full) (loop .i) (loop .row) (put-four .last .0) (put-four2 .last .0) _ (c .before .before .before .before .before .before .before .before .before .loop-test .taken) (c .before .before .before .before .before .before .before .before .before .before .before .before .shared-slice-known .given _ .fits) (put-four .ensures) (put-four2 .ensures) (loop .inv .1 .1)))
+    let b : ℕ = getD (args .s .now) (args .at + loop .i) 0 in
+    let y = c .before .before .before .before .before .before .before .before .before .before .before .before .before .before .shared-slice-known .given _ .fits in
+    let e = put-four .ensures ∙ spread-put (spread-bits .result) (b % 2) (b / 2 % 2) (b / 4 % 2) (b / 8 % 2) (spread-bits .ensures) (loop .row) (8 * loop .i) in
+    let f = put-four2 .ensures ∙ spread-put (spread-bits2 .result) (b / 16 % 2) (b / 32 % 2) (b / 64 % 2) (b / 128) (high-half (spread-bits2 .result) b y (spread-bits2 .ensures)) (put-four .last .0) (8 * loop .i + 4) in
+    (omega arith, (put-four2 .kept .0 ∙ put-four .kept .0 ∙ loop .inv .1 .0, octet-turn (args .s .now) (args .at) (args .full) (loop .i) (loop .row) (put-four .last .0) (put-four2 .last .0) _ (c .before .before .before .before .before .before .before .before .before .before .before .loop-test .taken) y e f (loop .inv .1 .1)))
 
 same-length : tie.Need-same-length Inv-loop μ-loop
 same-length c = search needs
@@ -77,9 +89,11 @@ store-octets-spec =
     add-b
     shared-slice-read-b
     mul-put-four
+    spread-bits-requires
     put-four-requires
     mul-put-four-2
     add-put-four
+    spread-bits-requires-2
     put-four-requires-2
     add-i
     loop-less

@@ -3,11 +3,11 @@
 use Rattle.packed.proofs.PutLaws.{none-stored}
 use native.Mathlib.Omega.{arith}
 use borrow.Author.Needs.{needs}
-use Rattle.packed.proofs.PutLaws.{quad-turn, rest-done}
+use Rattle.packed.proofs.PutLaws.{spread-put, quad-turn, rest-done}
 use Rattle.format.specs.Packed.{two}
 use Rattle.packed.specs.Arrays.{number-in, store}
-use lib.ListN.{length}
-use Prim.Native.Nat.{_-_, _*_, _≤_}
+use lib.ListN.{length, getD}
+use Prim.Native.Nat.{ℕ, _+_, _-_, _*_, _/_, _%_, _≤_}
 use mathlib.Core.Path.{_≡_, refl, _∙_}
 use Rattle.packed.proofs.store_quads.Statement.{statement}
 use Rattle.packed.proofs.store_quads.Tie as tie
@@ -23,14 +23,17 @@ loop-holds c =
     let args = c .before .before .args in
     (omega arith, (refl, none-stored (number-in two (args .s .now) (args .at)) 4 (args .full) (args .row .now)))
 
-add-b : tie.Need-add-b Inv-loop μ-loop
-add-b c = search needs
-
-shared-slice-read-b : tie.Need-shared-slice-read-b Inv-loop μ-loop
-shared-slice-read-b c = search needs
-
 mul-put-four : tie.Need-mul-put-four Inv-loop μ-loop
 mul-put-four c = search needs
+
+add-spread-quad : tie.Need-add-spread-quad Inv-loop μ-loop
+add-spread-quad c = search needs
+
+shared-slice-read-spread-quad : tie.Need-shared-slice-read-spread-quad Inv-loop μ-loop
+shared-slice-read-spread-quad c = search needs
+
+spread-quad-requires : tie.Need-spread-quad-requires Inv-loop μ-loop
+spread-quad-requires c κs = search needs
 
 put-four-requires : tie.Need-put-four-requires Inv-loop μ-loop
 put-four-requires c κs = search needs
@@ -43,10 +46,13 @@ loop-less c = search needs
 
 loop-again : tie.Need-loop-again Inv-loop μ-loop
 loop-again c =
-    let args = c .before .before .before .before .before .before .before .before .before .args in
-    let loop = c .before .before .before .before .before .before .loop in
+    let args = c .before .before .before .before .before .before .before .before .before .before .args in
+    let loop = c .before .before .before .before .before .before .before .loop in
+    let spread-quad = c .before .before .before .spread-quad in
     let put-four = c .before .before .put-four in
-    (omega arith, (put-four .kept .0 ∙ loop .inv .1 .0, quad-turn (args .s .now) (args .at) (args .full) (loop .i) (loop .row) (put-four .last .0) _ (c .before .before .before .before .before .loop-test .taken) (c .before .before .before .before .before .before .before .before .shared-slice-known .given _ .fits) (put-four .ensures) (loop .inv .1 .1)))
+    let b : ℕ = getD (args .s .now) (args .at + loop .i) 0 in
+    let e = put-four .ensures ∙ spread-put (spread-quad .result) (b % 4) (b / 4 % 4) (b / 16 % 4) (b / 64) (spread-quad .ensures) (loop .row) (4 * loop .i) in
+    (omega arith, (put-four .kept .0 ∙ loop .inv .1 .0, quad-turn (args .s .now) (args .at) (args .full) (loop .i) (loop .row) (put-four .last .0) _ (c .before .before .before .before .before .before .loop-test .taken) (c .before .before .before .before .before .before .before .before .before .shared-slice-known .given _ .fits) e (loop .inv .1 .1)))
 
 same-length : tie.Need-same-length Inv-loop μ-loop
 same-length c = search needs
@@ -64,9 +70,10 @@ store-quads-spec =
     Inv-loop
     μ-loop
     loop-holds
-    add-b
-    shared-slice-read-b
     mul-put-four
+    add-spread-quad
+    shared-slice-read-spread-quad
+    spread-quad-requires
     put-four-requires
     add-i
     loop-less

@@ -5,13 +5,14 @@ use mathlib.Core.Path.{refl}
 use borrow.Author.Needs.{needs}
 use Rattle.difflist.specs.Entries.{all-entries}
 use lib.ListN.{length}
+use Rattle.difflist.specs.Walked.{Walked}
 use Rattle.difflist.proofs.RoomLaws.{ready}
-use Rattle.difflist.proofs.LoopLaws.{Inv, turn-done, turn-stop, turn-on}
+use Rattle.difflist.proofs.LoopLaws.{turn-done, turn-stop, turn-on, walk-on}
 use Rattle.difflist.proofs.entry.all_entries.Statement.{statement}
 use Rattle.difflist.proofs.entry.all_entries.Tie as tie
 
 abbrev Inv-loop : tie.InvT-loop
-Inv-loop s n values store held count row₀ st₀ more₀ row st more = Inv s n values store held (length row₀) (all-entries count s n values store held st₀ row₀) row st more
+Inv-loop s n values store held count row₀ st₀ more₀ row st more = Walked s n values store held (length row₀) (all-entries count s n values store held st₀ row₀) row st more
 
 abbrev μ-loop : tie.MeasureT-loop
 μ-loop s n values store held count row₀ st₀ more₀ row st more = more
@@ -41,18 +42,23 @@ returns c =
 enum-known-got-2 : tie.Need-enum-known-got-2 Inv-loop μ-loop
 enum-known-got-2 c = search needs
 
-sub-more : tie.Need-sub-more Inv-loop μ-loop
-sub-more c = search needs
+sub-short-steps : tie.Need-sub-short-steps Inv-loop μ-loop
+sub-short-steps c = search needs
+
+short-steps-requires : tie.Need-short-steps-requires Inv-loop μ-loop
+short-steps-requires c κs =
+    let y = c .before .before .before .before .before .before .before .before .before .before .before .shared-slice-known .given in
+    let w = turn-on (c .before .before .before .before .before .before .before .before .before .loop .inv) (c .before .before .before .before .before .before .before .before .loop-test .taken) (λ i. y i .fits) (c .before .before .before .before .before .before .next-entry .ensures) (c .before .before .got2 .given .1) in
+    (w .room, omega (arith, w .keeps, c .before .before .before .before .before .before .before .before .before .before .before .before .pre .1))
 
 loop-less : tie.Need-loop-less Inv-loop μ-loop
-loop-less c = search needs
+loop-less c = omega (arith, c .before .before .before .short-steps .ensures .1, c .before .before .before .before .before .before .before .before .before .before .before .before .loop-test .taken)
 
 loop-again : tie.Need-loop-again Inv-loop μ-loop
 loop-again c =
-    let y = c .before .before .before .before .before .before .before .before .before .before .shared-slice-known .given in turn-on
-    (c .before .before .before .before .before .before .before .before .loop .inv)
-    (c .before .before .before .before .before .before .before .loop-test .taken) (λ i. y i .fits)
-    (c .before .before .before .before .before .next-entry .ensures) (c .before .got2 .given .1)
+    let y = c .before .before .before .before .before .before .before .before .before .before .before .before .before .before .before .shared-slice-known .given in
+    let w = turn-on (c .before .before .before .before .before .before .before .before .before .before .before .before .before .loop .inv) (c .before .before .before .before .before .before .before .before .before .before .before .before .loop-test .taken) (λ i. y i .fits) (c .before .before .before .before .before .before .before .before .before .before .next-entry .ensures) (c .before .before .before .before .before .before .got2 .given .1) in
+    walk-on w (c .before .before .before .short-steps .ensures .0)
 
 same-length-2 : tie.Need-same-length-2 Inv-loop μ-loop
 same-length-2 c = search needs
@@ -72,7 +78,8 @@ all-entries-spec =
     same-length
     returns
     enum-known-got-2
-    sub-more
+    sub-short-steps
+    short-steps-requires
     loop-less
     loop-again
     same-length-2

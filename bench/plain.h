@@ -1,0 +1,34 @@
+// The same work in plain C: the format of document 01 read, checked, written and flipped, with every refusal number and place. It is what the library
+// is timed against, and every answer of the library that is timed is compared with its answer.
+#ifndef BENCH_PLAIN_H
+#define BENCH_PLAIN_H
+#include "c.h"
+
+struct told { usize refusal, place, value; };
+struct file_told { usize refusal, place, mode, variants, samples, form; };
+
+// The inner loops (loops.c).
+void plain_unpack_categories(const u8 *s, usize n, u8 *row);
+void plain_unpack_pair(const u8 *s, usize n, u8 lower, u8 higher, u8 *row);
+void plain_copy(const u8 *from, usize n, u8 *to);
+void plain_clear(u8 *row, usize n);
+void plain_fill(u8 *row, usize n, u8 category);
+void plain_exchange_row(u8 *row, usize n);
+usize plain_first_above_3(const u8 *row, usize n);
+int plain_types_amiss(const u8 *types, usize size, int half);
+u64 plain_sum_lengths(const u8 *lengths, usize n, usize width);
+void plain_exchange_values(u8 *s, usize n);
+void plain_complement_bits(u8 *s, usize n);
+
+// A record's list and its body (records.c). NULL: refused, with the number and place in `told`.
+const u8 *plain_list(const u8 *file, const u8 *p, const u8 *end, usize n, int pair, u8 lower, u8 higher, int store, u8 *row, struct told *told);
+int plain_body(const u8 *file, usize start, usize end, usize n, u8 kind, int keep, u8 *row, struct told *told);
+
+// The calls (files.c, writing.c).
+struct file_told plain_header_check(const u8 *file, usize size);
+struct file_told plain_check(const u8 *file, usize size, u8 *work, usize work_size);
+struct told plain_read(const u8 *file, usize size, usize variant, u8 *output, usize output_size, u8 *work, usize work_size);
+struct told plain_flip(u8 *file, usize size, const u8 *set, usize set_size, u8 *work, usize work_size);
+struct told plain_write_record(const u8 *categories, usize n, usize kind, usize code, const u8 *anchor, usize anchor_size, u8 *output, usize output_size);
+u64 plain_rows(const u8 *file, usize size, u8 *output, u8 *work);
+#endif

@@ -1,0 +1,141 @@
+// One record: its list and its body, each part checked in stored order.
+#include "plain.h"
+
+static const u8 *refuse(struct told *told, usize refusal, usize place)
+{
+    told->refusal = refusal;
+    told->place = place;
+    return 0;
+}
+
+// A varint of at most five bytes, below 2^32, in its shortest form.
+static const u8 *varint(const u8 *file, const u8 *p, const u8 *end, u32 *value, struct told *told)
+{
+    const u8 *first = p;
+    u64 number = 0;
+    for (int i = 0; i < 5; i++) {
+        if (p == end) return refuse(told, 12, end - file);
+        u8 b = *p++;
+        number |= (u64)(b & 127) << 7 * i;
+        if (b < 128) {
+            if ((i && b == 0) || number >> 32) return refuse(told, 15, first - file);
+            *value = number;
+            return p;
+        }
+    }
+    return refuse(told, 15, first - file);
+}
+
+const u8 *plain_list(const u8 *file, const u8 *p, const u8 *end, usize n, int pair, u8 lower, u8 higher, int store, u8 *row, struct told *told)
+{
+    const u8 *first = p;
+    u32 count;
+    p = varint(file, p, end, &count, told);
+    if (!p) return 0;
+    if (count > n) return refuse(told, 16, first - file);
+    if (count == 0) return p;
+    usize groups = (count + 63) / 64, wide = n > 256 ? 2 : 1;
+    if ((usize)(end - p) < groups * wide + groups - 1 + (count + 3) / 4) return refuse(told, 12, end - file);
+    const u8 *heads = p, *sizes = heads + groups * wide, *values = sizes + groups - 1;
+    p = values + (count + 3) / 4;
+    if (count % 4 && p[-1] >> 2 * (count % 4)) return refuse(told, 18, p - 1 - file);
+    usize sample = 0, k = 0;
+    for (usize g = 0; g < groups; g++) {
+        const u8 *head = heads + g * wide, *from = p;
+        usize next = wide == 1 ? head[0] : head[0] | (usize)head[1] << 8;
+        if ((g > 0 && next <= sample) || next >= n) return refuse(told, 16, head - file);
+        sample = next;
+        usize stop = k + 64 < count ? k + 64 : count;
+        for (;;) {
+            u8 value = values[k / 4] >> 2 * (k % 4) & 3;
+            if (pair ? value == lower || value == higher : value == row[sample]) return refuse(told, 17, values + k / 4 - file);
+            if (store) row[sample] = value;
+            if (++k == stop) break;
+            const u8 *at = p;
+            u32 step;
+            if (p < end && *p < 128) step = *p++;
+            else {
+                p = varint(file, p, end, &step, told);
+                if (!p) return 0;
+            }
+            if (step == 0 || step >= n - sample) return refuse(told, 16, at - file);
+            sample += step;
+        }
+        if (g + 1 < groups && p - from != sizes[g] + 63) return refuse(told, 16, sizes + g - file);
+    }
+    return p;
+}
+
+static const u8 pairs[10][2] = {[1] = {0, 1}, [2] = {0, 2}, [3] = {0, 3}, [5] = {1, 2}, [6] = {1, 3}, [9] = {2, 3}};
+
+// Careful C for the two arrays: four and eight samples at once, where loops.c has the plain loops.
+static void unpack_two(const u8 *s, usize n, u8 *row)
+{
+    usize full = n / 4;
+    for (usize i = 0; i < full; i++) {
+        u32 x = s[i];
+        x = (x | x << 12) & 0x000f000f;
+        x = (x | x << 6) & 0x03030303;
+        memcpy(row + 4 * i, &x, 4);
+    }
+    for (usize k = 4 * full; k < n; k++) row[k] = s[k / 4] >> 2 * (k % 4) & 3;
+}
+
+static void unpack_one(const u8 *s, usize n, u8 lower, u8 higher, u8 *row)
+{
+    usize full = n / 8;
+    u64 ones = 0x0101010101010101, base = lower * ones, step = higher - lower;
+    for (usize i = 0; i < full; i++) {
+        u64 x = s[i] * ones & 0x8040201008040201;
+        x = (x + 0x7f7f7f7f7f7f7f7f) >> 7 & ones;
+        x = base + x * step;
+        memcpy(row + 8 * i, &x, 8);
+    }
+    for (usize k = 8 * full; k < n; k++) row[k] = s[k / 8] >> k % 8 & 1 ? higher : lower;
+}
+
+static const u8 *array(const u8 *file, const u8 *p, const u8 *end, usize n, int per_byte, struct told *told)
+{
+    usize size = (n + per_byte - 1) / per_byte;
+    if ((usize)(end - p) < size) return refuse(told, 12, end - file);
+    if (n % per_byte && p[size - 1] >> 8 / per_byte * (n % per_byte)) return refuse(told, 18, p + size - 1 - file);
+    return p + size;
+}
+
+static const u8 *track(const u8 *file, const u8 *p, const u8 *end, usize n, u8 kind, int keep, u8 *row, struct told *told)
+{
+    const u8 *next;
+    switch (kind) {
+    case 0:
+        next = array(file, p, end, n, 4, told);
+        if (next) unpack_two(p, n, row);
+        return next;
+    case 1: {
+        if (p == end) return refuse(told, 12, end - file);
+        u8 code = *p;
+        if (code > 9 || pairs[code][1] == 0) return refuse(told, 14, p - file);
+        u8 lower = pairs[code][0], higher = pairs[code][1];
+        next = array(file, p + 1, end, n, 8, told);
+        if (!next) return 0;
+        unpack_one(p + 1, n, lower, higher, row);
+        return plain_list(file, next, end, n, 1, lower, higher, 1, row, told);
+    }
+    case 2:
+    case 3:
+        next = plain_list(file, p, end, n, 0, 0, 0, !keep, row, told);
+        if (next && kind == 3 && !keep) plain_exchange_row(row, n);
+        return next;
+    default:
+        plain_fill(row, n, kind - 4);
+        return plain_list(file, p, end, n, 0, 0, 0, 1, row, told);
+    }
+}
+
+// With `keep` a leaning record is only checked, and the anchor's row stays. 0: refused, and the row is zero.
+int plain_body(const u8 *file, usize start, usize end, usize n, u8 kind, int keep, u8 *row, struct told *told)
+{
+    const u8 *next = track(file, file + start, file + end, n, kind, keep, row, told);
+    if (next && next < file + end) next = refuse(told, 13, next - file);
+    if (!next) plain_clear(row, n);
+    return next != 0;
+}

@@ -1,0 +1,375 @@
+// The public calls on whole files, against the plain C program and memcpy of the same bytes.
+//   whole headers                  the header check, 1,000,000 and 16,777,216 variants, each form
+//   whole files                    files of about 250 MB: check, rows, read, flip, write
+//   whole growth                   the same over 1, 2, 4 and 8 times the size
+//   whole make SAMPLES NAME        such a file written to disk, with what plink2 wants beside it
+//   whole disk NAME                that file read from disk and checked, and read, flipped and written back
+#include "timed.h"
+#include "make.h"
+#include "measure.h"
+
+enum { WHOLE = 250000000 };
+
+static struct file file, twin;
+static u8 row[65536], other[65536], work_1[65536], work_2[65536], *copied, *set;
+static usize variant, kind, code;
+static u64 sum_1, sum_2;
+static struct file_told check_1, check_2;
+static struct told told_1, told_2;
+
+static void same_told(const char *what)
+{
+    if (memcmp(&told_1, &told_2, sizeof told_1) || memcmp(row, other, sizeof row) || memcmp(work_1, work_2, sizeof work_1)) fail(what);
+}
+
+static void same_check(const char *what)
+{
+    if (memcmp(&check_1, &check_2, sizeof check_1) || memcmp(work_1, work_2, sizeof work_1) || check_1.refusal) fail(what);
+}
+
+static void copy(void *on) { memcpy(copied, file.bytes, file.size); }
+static void header_ours(void *on) { check_1 = timed_header_check(file.bytes, file.size); }
+static void header_plain(void *on) { check_2 = plain_header_check(file.bytes, file.size); }
+static void check_ours(void *on) { check_1 = timed_check(file.bytes, file.size, work_1, sizeof work_1); }
+static void check_plain(void *on) { check_2 = plain_check(file.bytes, file.size, work_2, sizeof work_2); }
+static void read_ours(void *on) { told_1 = timed_read(file.bytes, file.size, variant, row, sizeof row, work_1, sizeof work_1); }
+static void read_plain(void *on) { told_2 = plain_read(file.bytes, file.size, variant, other, sizeof other, work_2, sizeof work_2); }
+static void flip_ours(void *on) { told_1 = timed_flip(file.bytes, file.size, set, (file.variants + 7) / 8, work_1, sizeof work_1); }
+static void flip_plain(void *on) { told_2 = plain_flip(twin.bytes, twin.size, set, (file.variants + 7) / 8, work_2, sizeof work_2); }
+
+#ifdef ROWS
+static void rows_ours(void *on)
+{
+    struct rows r = timed_start_rows(file.bytes, file.size, work_1, sizeof work_1);
+    sum_1 = 0;
+    if (r.told.refusal) return;
+    for (usize v = 1; v <= file.variants; v++) {
+        r = timed_next_row(r, file.bytes, file.size, row, sizeof row, work_1, sizeof work_1);
+        if (r.told.refusal) return;
+        sum_1 += row[v % file.samples] + 4 * row[file.samples - 1];
+    }
+}
+#endif
+static void rows_plain(void *on) { sum_2 = plain_rows(file.bytes, file.size, other, work_2); }
+
+static void line(const char *what, double bytes, double ours, double plain, double copy)
+{
+    printf("| %s | %.1f | %.1f | %.1f | %.2f | %.2f | %.1f |\n", what, bytes / 1e6, ours * 1e3, plain * 1e3, bytes / ours / 1e9, plain / ours, copy * 1e3);
+}
+
+static void head(const char *of)
+{
+    printf("\n| %s | MB | library ms | C ms | library GB/s | library / C | memcpy ms |\n|---|---|---|---|---|---|---|\n", of);
+}
+
+static void three(const char *what, double bytes, work *ours, work *plain, double seconds)
+{
+    work *works[] = {ours, plain, copy};
+    void *on[3] = {0};
+    double least[3];
+    take_turns(works, on, 3, 50, seconds, least);
+    line(what, bytes, least[0], least[1], least[2]);
+}
+
+static void headers(void)
+{
+    static const usize counts[2] = {1000000, 16777216};
+    static const u8 forms[5] = {0x40, 0x41, 0x42, 0x43, 0x47};
+    char what[80];
+    head("Header check");
+    for (int k = 0; k < 2; k++)
+        for (int f = 0; f < 5; f++) {
+            file = make_header(counts[k], forms[f]);
+            usize whole = file.size, blocks = (counts[k] + 65535) / 65536;
+            usize size = 12 + 8 * blocks + (forms[f] % 16 < 4 ? counts[k] / 2 : counts[k]) + (forms[f] % 4 + 1) * counts[k];
+            copied = pages(size);
+            header_ours(0), header_plain(0);
+            same_check("header check");
+            if (check_1.variants != counts[k]) fail("header check");
+            // memcpy of the header alone: the rest is not read
+            work *works[] = {header_ours, header_plain, copy};
+            void *on[3] = {0};
+            double least[3], copies[1];
+            take_turns(works, on, 2, 200, 0.7, least);
+            file.size = size;
+            take_turns(works + 2, on, 1, 20, 0.2, copies);
+            file.size = whole;
+            snprintf(what, sizeof what, "M = %lu, %s types, lengths of %d", counts[k], forms[f] % 16 < 4 ? "4-bit" : "8-bit", forms[f] % 4 + 1);
+            line(what, size, least[0], least[1], copies[0]);
+            munmap(file.bytes, whole + 4096);
+            munmap(copied, size + 4096);
+        }
+}
+
+static void take_file(const struct bodies *b, usize variants)
+{
+    file = make_file(b, variants, 0x41);
+    twin = file;
+    twin.bytes = pages(file.size);
+    memcpy(twin.bytes, file.bytes, file.size);
+    copied = pages(file.size);
+    set = pages(variants / 8 + 1);
+    for (usize v = 0; v < variants; v++)
+        if (rnd() % 3 == 0) set[v / 8] |= 1 << v % 8;
+    memset(row, 0, sizeof row);
+    memset(other, 0, sizeof other);
+    copy(0);
+}
+
+static void drop_file(void)
+{
+    munmap(file.bytes, file.size + 4096);
+    munmap(twin.bytes, file.size + 4096);
+    munmap(copied, file.size + 4096);
+    munmap(set, file.variants / 8 + 1 + 4096);
+}
+
+static void check_both(void)
+{
+    check_ours(0), check_plain(0);
+    same_check("whole-file check");
+}
+
+static void flip_both(void)
+{
+    flip_ours(0), flip_plain(0);
+    same_told("flip");
+    if (told_1.refusal || memcmp(file.bytes, twin.bytes, file.size)) fail("flip");
+}
+
+static void rows_both(void)
+{
+#ifdef ROWS
+    rows_ours(0), rows_plain(0);
+    if (sum_1 != sum_2 || sum_1 == 0 || memcmp(row, other, sizeof row)) fail("rows");
+    memset(work_1, 0, sizeof work_1);
+#endif
+}
+
+// Every variant of the first block's start, and some all over the file, read by both.
+static void read_both(void)
+{
+    for (usize k = 0; k < 60; k++) {
+        variant = k < 40 ? k : rnd() % file.variants;
+        read_ours(0), read_plain(0);
+        same_told("read");
+        if (told_1.refusal) fail("read");
+    }
+}
+
+// A row as each kind would have it, written in that kind.
+static u8 categories[65536], anchor[65536], out_1[262144], out_2[262144];
+
+static void write_ours(void *on)
+{
+    for (int i = 0; i < 20; i++) told_1 = timed_write_record(categories, file.samples, kind, code, anchor, kind == 2 || kind == 3 ? file.samples : 0, out_1, sizeof out_1);
+}
+
+static void write_plain(void *on)
+{
+    for (int i = 0; i < 20; i++) told_2 = plain_write_record(categories, file.samples, kind, code, anchor, kind == 2 || kind == 3 ? file.samples : 0, out_2, sizeof out_2);
+}
+
+static void writes(void)
+{
+    static const u8 kinds[7] = {0, 1, 2, 3, 4, 6, 7};
+    char what[80];
+    usize n = file.samples;
+    printf("\n| Write of one record, N = %lu | record bytes | library us | C us | library GB/s of categories | library / C |\n|---|---|---|---|---|---|\n", n);
+    for (int k = 0; k < 7; k++) {
+        kind = kinds[k];
+        code = kind == 1;
+        for (usize i = 0; i < n; i++) {
+            usize r = rnd() % 100;
+            anchor[i] = r < 60 ? 0 : r < 90 ? 1 : r < 98 ? 2 : 3;
+            u8 value = kind == 0 ? rnd() % 4 : kind == 1 ? rnd() % 2 : kind == 2 ? anchor[i] : kind == 3 ? (anchor[i] == 0 ? 2 : anchor[i] == 2 ? 0 : anchor[i]) : kind - 4;
+            categories[i] = rnd() % 50 ? value : rnd() % 4;
+        }
+        write_ours(0), write_plain(0);
+        if (memcmp(&told_1, &told_2, sizeof told_1) || memcmp(out_1, out_2, sizeof out_1) || told_1.refusal) fail("write");
+        work *works[] = {write_ours, write_plain};
+        void *on[2] = {0};
+        double least[2];
+        take_turns(works, on, 2, 200, 0.4, least);
+        snprintf(what, sizeof what, "kind %lu", kind);
+        printf("| %s | %lu | %.2f | %.2f | %.2f | %.2f |\n", what, told_1.value, least[0] / 20 * 1e6, least[1] / 20 * 1e6, n * 20 / least[0] / 1e9, least[1] / least[0]);
+    }
+}
+
+static void files(void)
+{
+    static const usize samples[2] = {2000, 20000};
+    char what[80];
+    for (int k = 0; k < 2; k++) {
+        struct bodies *b = make_bodies(samples[k], WHOLE);
+        take_file(b, bodies_variants(b));
+        snprintf(what, sizeof what, "N = %lu, M = %lu", file.samples, file.variants);
+        head(what);
+        header_ours(0), header_plain(0);
+        same_check("header check");
+        usize header = 12 + 8 * ((file.variants + 65535) / 65536) + file.variants / 2 + 2 * file.variants;
+        three("header check (MB of the header)", header, header_ours, header_plain, 0.5);
+        check_both();
+        three("whole-file check", file.size, check_ours, check_plain, 8);
+#ifdef ROWS
+        rows_both();
+        three("rows over the file", file.size, rows_ours, rows_plain, 8);
+        memset(work_1, 0, sizeof work_1);
+        memset(work_2, 0, sizeof work_2);
+#endif
+        read_both();
+        variant = file.variants - 1;
+        three("read of the last variant (MB of the header)", header, read_ours, read_plain, 0.5);
+        flip_both();
+        three("flip of a third of the variants", file.size, flip_ours, flip_plain, 8);
+        // after an odd number of rounds the two may differ by one flip: both are flipped as often
+        if (memcmp(file.bytes, twin.bytes, file.size)) fail("flip");
+        writes();
+        drop_file();
+    }
+}
+
+static void growth(void)
+{
+    static const usize samples[2] = {2000, 20000};
+    printf("\n| Growth: ns per byte | MB | check | check in C | %sflip | flip in C |\n|---|---|---|---|%s---|---|\n",
+#ifdef ROWS
+           "rows | rows in C | ", "---|---|"
+#else
+           "", ""
+#endif
+    );
+    for (int k = 0; k < 2; k++) {
+        struct bodies *b = make_bodies(samples[k], WHOLE);
+        for (usize part = 8; part; part /= 2) {
+            take_file(b, bodies_variants(b) / part);
+            check_both(), rows_both(), flip_both();
+            work *works[] = {check_ours, check_plain, flip_ours, flip_plain,
+#ifdef ROWS
+                             rows_ours, rows_plain
+#endif
+            };
+            void *on[6] = {0};
+            double least[6];
+            take_turns(works, on, sizeof works / sizeof *works, 7, 10.0 / part, least);
+            double scale = 1e9 / file.size;
+            printf("| N = %lu, %lu times | %.1f | %.3f | %.3f | ", samples[k], 8 / part, file.size / 1e6, least[0] * scale, least[1] * scale);
+#ifdef ROWS
+            printf("%.3f | %.3f | ", least[4] * scale, least[5] * scale);
+#endif
+            printf("%.3f | %.3f |\n", least[2] * scale, least[3] * scale);
+            drop_file();
+        }
+    }
+}
+
+static void put(int to, const u8 *p, usize size)
+{
+    while (size) {
+        i64 done = write(to, p, size);
+        if (done <= 0) {
+            dprintf(2, "cannot write\n");
+            exit(1);
+        }
+        p += done;
+        size -= done;
+    }
+}
+
+// The file, with the .pvar and .psam that plink2 wants, and the list of a third of the variants for --ref-allele.
+static void make(usize samples, const char *name)
+{
+    static char path[4096], text[1 << 20];
+    usize used;
+    struct bodies *b = make_bodies(samples, WHOLE);
+    file = make_file(b, bodies_variants(b), 0x41);
+    snprintf(path, sizeof path, "%s.pgen", name);
+    int to = creat(path, 0644);
+    put(to, file.bytes, file.size);
+    close(to);
+    snprintf(path, sizeof path, "%s.psam", name);
+    to = creat(path, 0644);
+    used = snprintf(text, sizeof text, "#IID\tSEX\n");
+    for (usize i = 0; i < samples; i++) used += snprintf(text + used, sizeof text - used, "s%lu\tNA\n", i);
+    put(to, (u8 *)text, used);
+    close(to);
+    snprintf(path, sizeof path, "%s.pvar", name);
+    to = creat(path, 0644);
+    snprintf(path, sizeof path, "%s.third", name);
+    int third = creat(path, 0644);
+    put(to, (const u8 *)"#CHROM\tPOS\tID\tREF\tALT\n", 22);
+    for (usize v = 0; v < file.variants;) {
+        used = 0;
+        for (; v < file.variants && used < sizeof text - 100; v++) used += snprintf(text + used, 100, "1\t%lu\tv%lu\tA\tC\n", v + 1, v);
+        put(to, (u8 *)text, used);
+    }
+    for (usize v = 0; v < file.variants;) {
+        used = 0;
+        for (; v < file.variants && used < sizeof text - 100; v += 3) used += snprintf(text + used, 100, "v%lu\tC\n", v);
+        put(third, (u8 *)text, used);
+    }
+    close(to);
+    close(third);
+}
+
+static void get(const char *path, u8 *p, usize size)
+{
+    int from = open(path, 0);
+    while (size) {
+        i64 done = read(from, p, size);
+        if (done <= 0) {
+            dprintf(2, "cannot read %s\n", path);
+            exit(1);
+        }
+        p += done;
+        size -= done;
+    }
+    close(from);
+}
+
+// What plink2 does from disk to disk, by the library: the least of three rounds each.
+static void disk(const char *name)
+{
+    static char path[4096], result[4096];
+    snprintf(path, sizeof path, "%s.pgen", name);
+    snprintf(result, sizeof result, "%s.flipped.pgen", name);
+    int from = open(path, 0);
+    file.size = lseek(from, 0, 2);
+    close(from);
+    file.bytes = pages(file.size);
+    double read_and_check = 1e99, whole_flip = 1e99;
+    for (int round = 0; round < 3; round++) {
+        double t = on_clock();
+        get(path, file.bytes, file.size);
+        check_ours(0);
+        t = on_clock() - t;
+        if (t < read_and_check) read_and_check = t;
+        if (check_1.refusal) fail("check of the file on disk");
+        file.variants = check_1.variants;
+        if (!set) {
+            set = pages(file.variants / 8 + 1);
+            for (usize v = 0; v < file.variants; v += 3) set[v / 8] |= 1 << v % 8;
+        }
+        t = on_clock();
+        get(path, file.bytes, file.size);
+        flip_ours(0);
+        int to = creat(result, 0644);
+        put(to, file.bytes, file.size);
+        close(to);
+        t = on_clock() - t;
+        if (t < whole_flip) whole_flip = t;
+        if (told_1.refusal) fail("flip of the file on disk");
+    }
+    printf("%.2f %.2f\n", read_and_check, whole_flip);
+}
+
+int main(int count, char **words)
+{
+    if (count == 2 && !strcmp(words[1], "headers")) headers();
+    else if (count == 2 && !strcmp(words[1], "files")) files();
+    else if (count == 2 && !strcmp(words[1], "growth")) growth();
+    else if (count == 4 && !strcmp(words[1], "make")) make(atol(words[2]), words[3]);
+    else if (count == 3 && !strcmp(words[1], "disk")) disk(words[2]);
+    else return 2;
+    return 0;
+}
