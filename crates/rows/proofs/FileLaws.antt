@@ -38,13 +38,11 @@ use Rattle.extents.proofs.FoundLaws.{kinds-found, sizes-found}
 use Rattle.places.specs.declared.Place.{Place}
 use Rattle.places.specs.declared.Extent.{Extent}
 use Rattle.places.specs.Located.{place-in, extent-in}
-use Rattle.record.specs.declared.RecordReply.the-variants as record-reply
-use Rattle.record.specs.Recorded.{Outcome, done, replied, recorded}
 use Rattle.reader.specs.Rows.{row-left as row-in}
 use Rattle.reader.proofs.Cut.{obeys, written, body-is-bytes, few-samples, walk-place, inside, recorded-is}
 use Rattle.reader.proofs.OneLaws.{read-too}
 use Rattle.rows.specs.declared.Rows.{Rows}
-use Rattle.rows.specs.Calls.{next-record, Left, row-left, past, answered, alone, leaning, read-at, over-anchor, stepped, next-row-call}
+use Rattle.rows.specs.Calls.{next-record, Left, alone, leaning, read-at, over-anchor, stepped, next-row-call}
 use Rattle.rows.proofs.RecordLaws.{record-there}
 
 -- the state before variant v of a layout

@@ -2,3 +2,4 @@ pub mod StepLaws
 pub mod StartLaws
 pub mod RecordLaws
 pub mod FileLaws
+pub mod RowsAreReads

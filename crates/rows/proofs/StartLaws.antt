@@ -21,7 +21,6 @@ use Rattle.blocks.specs.Parts.{fixed, fields-of}
 use Rattle.places.specs.Located.{HasLayout}
 use Rattle.places.proofs.FromReply.{reply-accepted, reply-refused}
 use Rattle.reader.proofs.Cut.{obeys}
-use Rattle.rows.specs.declared.Rows.{Rows}
 use Rattle.rows.specs.declared.RowsReply.{RowsReply}
 use Rattle.rows.specs.declared.RowsReply.the-variants.{Started, Refused}
 use Rattle.rows.specs.Calls.{start-rows-call}

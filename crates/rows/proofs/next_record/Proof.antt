@@ -6,10 +6,9 @@ use mathlib.Core.List.{[]}
 use native.Mathlib.Omega.{arith}
 use denote.Ref.{now}
 use borrow.Author.Tests.{not-true, not-false}
-use Rattle.format.specs.Base.{Out, ok, refuse}
+use Rattle.format.specs.Base.{ok, refuse}
 use Rattle.format.specs.Layout.{type-allowed}
 use Rattle.blocks.specs.Parts.{fixed}
-use Rattle.places.specs.declared.Place.{Place}
 use Rattle.rows.specs.Calls.{found}
 use Rattle.rows.proofs.RecordLaws.{not-plain, many-variants, many-samples, short-output, short-work, no-variant, no-type, no-end, record-there}
 use borrow.Author.Needs.{needs}
