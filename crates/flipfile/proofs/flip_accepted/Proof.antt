@@ -1,11 +1,11 @@
 -- `flipfile::flip_accepted` meets its contract.
 -- Assumes nothing.
-use lib.Dec.{lit<}
+use Rattle.format.specs.File.{layout-of-file}
 use Rattle.format.specs.Reply.{member}
 use Rattle.blocks.proofs.Sizes.{all-bytes}
 use Rattle.blocks.proofs.Places.{is-blocked}
-use Rattle.flipfile.proofs.FileLaw.{accepted-long, fields-small}
-use Rattle.flipfile.proofs.AcceptedLaws.{accepted-plain, accepted-typed}
+use Rattle.extents.proofs.AcceptedLaws.{long, few-variants, few-samples}
+use Rattle.flipfile.proofs.AcceptedLaws.{layout-accepted, accepted-plain, accepted-typed}
 use borrow.Author.Needs.{needs}
 use Rattle.flipfile.proofs.flip_accepted.Statement.{statement}
 use Rattle.flipfile.proofs.flip_accepted.Tie as tie
@@ -13,12 +13,18 @@ use Rattle.flipfile.proofs.flip_accepted.Tie as tie
 fields-at-requires : tie.Need-fields-at-requires
 fields-at-requires c κs =
     let file = c .before .before .before .args .file .now in
-    accepted-long 65536 file (lit< tt) (all-bytes file (λ i. c .before .before .slice-known .given i .fits)) (c .before .before .before .pre)
+    let w = c .before .before .before .pre in
+    long file (layout-of-file (w .0)) (layout-accepted file (all-bytes file (λ i. c .before .before .slice-known .given i .fits)) w)
 
 flip-bodies-requires : tie.Need-flip-bodies-requires
 flip-bodies-requires c κs =
     let file = c .before .before .before .before .before .args .file .now in
-    fields-small 65536 file (lit< tt) (all-bytes file (λ i. c .before .before .before .before .slice-known .given i .fits)) (c .before .before .before .before .before .pre) (c .before .fields-at .result) (c .before .fields-at .ensures)
+    let y = all-bytes file (λ i. c .before .before .before .before .slice-known .given i .fits) in
+    let w = c .before .before .before .before .before .pre in
+    let f = c .before .fields-at in (
+      few-variants file y (layout-of-file (w .0)) (layout-accepted file y w) (f .result) (f .ensures),
+      few-samples file y (layout-of-file (w .0)) (layout-accepted file y w) (f .result) (f .ensures),
+    )
 
 same-length : tie.Need-same-length
 same-length c = search needs
@@ -33,8 +39,10 @@ returns c =
 flip-types-requires : tie.Need-flip-types-requires
 flip-types-requires c κs =
     let file = c .before .before .before .before .before .before .before .before .before .before .before .args .file .now in
+    let y = all-bytes file (λ i. c .before .before .before .before .before .before .before .before .before .before .slice-known .given i .fits) in
+    let w = c .before .before .before .before .before .before .before .before .before .before .before .pre in
     let f = c .before .before .before .before .before .before .before .fields-at in
-    (fields-small 65536 file (lit< tt) (all-bytes file (λ i. c .before .before .before .before .before .before .before .before .before .before .slice-known .given i .fits)) (c .before .before .before .before .before .before .before .before .before .before .before .pre) (f .result) (f .ensures) .0, is-blocked (f .result) (c .before .if1 .left))
+    (few-variants file y (layout-of-file (w .0)) (layout-accepted file y w) (f .result) (f .ensures), is-blocked (f .result) (c .before .if1 .left))
 
 same-length-2 : tie.Need-same-length-2
 same-length-2 c = search needs

@@ -10,7 +10,8 @@ use Rattle.format.specs.Track.{leans}
 use Rattle.blocks.proofs.Sizes.{all-bytes}
 use Rattle.places.specs.declared.Place.{Place}
 use Rattle.record.specs.Recorded.{recorded}
-use Rattle.reader.proofs.Cut.{few-samples, has, kind-known, rises, cut-end}
+use Rattle.extents.proofs.AcceptedLaws.{samples-most}
+use Rattle.reader.proofs.Cut.{has, kind-known, rises, cut-end}
 use Rattle.reader.proofs.OneLaws.{below-in, samples-in, read-alone, anchor-below, anchor-refused, over-anchor}
 use borrow.Author.Needs.{needs}
 use Rattle.reader.proofs.read_row.Statement.{statement}
@@ -32,7 +33,7 @@ slice-aggregate-read-body : tie.Need-slice-aggregate-read-body
 slice-aggregate-read-body c = sym (cut-end (now (c .before .before .before .before .before .before .before .before .args .file)) (all-bytes (now (c .before .before .before .before .before .before .before .before .args .file)) (λ i. c .before .before .before .before .before .before .before .shared-slice-known .given i .fits)) (c .before .before .before .before .before .before .before .before .pre .layout) (c .before .before .before .before .before .before .before .before .pre .accepted) (c .before .before .anchor-of .result) (anchor-below (now (c .before .before .before .before .before .before .before .before .args .file)) (all-bytes (now (c .before .before .before .before .before .before .before .before .args .file)) (λ i. c .before .before .before .before .before .before .before .shared-slice-known .given i .fits)) (c .before .before .before .before .before .before .before .before .pre .layout) (c .before .before .before .before .before .before .before .before .pre .accepted) (c .before .before .before .before .before .before .before .before .args .v) (below-in (now (c .before .before .before .before .before .before .before .before .args .file)) (c .before .before .before .before .before .before .before .before .args .n) (c .before .before .before .before .before .before .before .before .args .v) (now (c .before .before .before .before .before .before .before .before .args .row)) (c .before .before .before .before .before .before .before .before .pre) (c .before .before .before .before .before .before .before .before .pre .layout) (c .before .before .before .before .before .before .before .before .pre .accepted)) (sym (ap (λ (z : Place). leans (z .kind)) (c .before .before .before .before .before .place-of .ensures (c .before .before .before .before .before .before .before .before .pre .layout) (c .before .before .before .before .before .before .before .before .pre .accepted))) ∙ sym (c .before .before .before .before .type-leans .ensures) ∙ c .before .before .before .if1 .taken) (c .before .before .anchor-of .result) (c .before .before .anchor-of .ensures (c .before .before .before .before .before .before .before .before .pre .layout) (c .before .before .before .before .before .before .before .before .pre .accepted))) ((c .before .place-of2 .result) .start) ((c .before .place-of2 .result) .end) ((c .before .place-of2 .result) .kind) (c .before .place-of2 .ensures (c .before .before .before .before .before .before .before .before .pre .layout) (c .before .before .before .before .before .before .before .before .pre .accepted)))
 
 read-body-requires : tie.Need-read-body-requires
-read-body-requires c κs = ((omega (arith, cut-end (now (c .before .before .before .before .before .before .before .before .before .args .file)) (all-bytes (now (c .before .before .before .before .before .before .before .before .before .args .file)) (λ i. c .before .before .before .before .before .before .before .before .shared-slice-known .given i .fits)) (c .before .before .before .before .before .before .before .before .before .pre .layout) (c .before .before .before .before .before .before .before .before .before .pre .accepted) (c .before .before .before .anchor-of .result) (anchor-below (now (c .before .before .before .before .before .before .before .before .before .args .file)) (all-bytes (now (c .before .before .before .before .before .before .before .before .before .args .file)) (λ i. c .before .before .before .before .before .before .before .before .shared-slice-known .given i .fits)) (c .before .before .before .before .before .before .before .before .before .pre .layout) (c .before .before .before .before .before .before .before .before .before .pre .accepted) (c .before .before .before .before .before .before .before .before .before .args .v) (below-in (now (c .before .before .before .before .before .before .before .before .before .args .file)) (c .before .before .before .before .before .before .before .before .before .args .n) (c .before .before .before .before .before .before .before .before .before .args .v) (now (c .before .before .before .before .before .before .before .before .before .args .row)) (c .before .before .before .before .before .before .before .before .before .pre) (c .before .before .before .before .before .before .before .before .before .pre .layout) (c .before .before .before .before .before .before .before .before .before .pre .accepted)) (sym (ap (λ (z : Place). leans (z .kind)) (c .before .before .before .before .before .before .place-of .ensures (c .before .before .before .before .before .before .before .before .before .pre .layout) (c .before .before .before .before .before .before .before .before .before .pre .accepted))) ∙ sym (c .before .before .before .before .before .type-leans .ensures) ∙ c .before .before .before .before .if1 .taken) (c .before .before .before .anchor-of .result) (c .before .before .before .anchor-of .ensures (c .before .before .before .before .before .before .before .before .before .pre .layout) (c .before .before .before .before .before .before .before .before .before .pre .accepted))) ((c .before .before .place-of2 .result) .start) ((c .before .before .place-of2 .result) .end) ((c .before .before .place-of2 .result) .kind) (c .before .before .place-of2 .ensures (c .before .before .before .before .before .before .before .before .before .pre .layout) (c .before .before .before .before .before .before .before .before .before .pre .accepted)), rises (now (c .before .before .before .before .before .before .before .before .before .args .file)) (all-bytes (now (c .before .before .before .before .before .before .before .before .before .args .file)) (λ i. c .before .before .before .before .before .before .before .before .shared-slice-known .given i .fits)) (c .before .before .before .before .before .before .before .before .before .pre .layout) (c .before .before .before .before .before .before .before .before .before .pre .accepted) (c .before .before .before .anchor-of .result) (anchor-below (now (c .before .before .before .before .before .before .before .before .before .args .file)) (all-bytes (now (c .before .before .before .before .before .before .before .before .before .args .file)) (λ i. c .before .before .before .before .before .before .before .before .shared-slice-known .given i .fits)) (c .before .before .before .before .before .before .before .before .before .pre .layout) (c .before .before .before .before .before .before .before .before .before .pre .accepted) (c .before .before .before .before .before .before .before .before .before .args .v) (below-in (now (c .before .before .before .before .before .before .before .before .before .args .file)) (c .before .before .before .before .before .before .before .before .before .args .n) (c .before .before .before .before .before .before .before .before .before .args .v) (now (c .before .before .before .before .before .before .before .before .before .args .row)) (c .before .before .before .before .before .before .before .before .before .pre) (c .before .before .before .before .before .before .before .before .before .pre .layout) (c .before .before .before .before .before .before .before .before .before .pre .accepted)) (sym (ap (λ (z : Place). leans (z .kind)) (c .before .before .before .before .before .before .place-of .ensures (c .before .before .before .before .before .before .before .before .before .pre .layout) (c .before .before .before .before .before .before .before .before .before .pre .accepted))) ∙ sym (c .before .before .before .before .before .type-leans .ensures) ∙ c .before .before .before .before .if1 .taken) (c .before .before .before .anchor-of .result) (c .before .before .before .anchor-of .ensures (c .before .before .before .before .before .before .before .before .before .pre .layout) (c .before .before .before .before .before .before .before .before .before .pre .accepted))) ((c .before .before .place-of2 .result) .start) ((c .before .before .place-of2 .result) .end) ((c .before .before .place-of2 .result) .kind) (c .before .before .place-of2 .ensures (c .before .before .before .before .before .before .before .before .before .pre .layout) (c .before .before .before .before .before .before .before .before .before .pre .accepted))), omega (arith, few-samples (now (c .before .before .before .before .before .before .before .before .before .args .file)) (all-bytes (now (c .before .before .before .before .before .before .before .before .before .args .file)) (λ i. c .before .before .before .before .before .before .before .before .shared-slice-known .given i .fits)) (c .before .before .before .before .before .before .before .before .before .pre .layout) (c .before .before .before .before .before .before .before .before .before .pre .accepted), (samples-in (now (c .before .before .before .before .before .before .before .before .before .args .file)) (c .before .before .before .before .before .before .before .before .before .args .n) (c .before .before .before .before .before .before .before .before .before .args .v) (now (c .before .before .before .before .before .before .before .before .before .args .row)) (c .before .before .before .before .before .before .before .before .before .pre) (c .before .before .before .before .before .before .before .before .before .pre .layout) (c .before .before .before .before .before .before .before .before .before .pre .accepted))), omega (arith, c .before .before .before .before .before .before .before .before .before .pre .room)), (omega (arith, kind-known (now (c .before .before .before .before .before .before .before .before .before .args .file)) (all-bytes (now (c .before .before .before .before .before .before .before .before .before .args .file)) (λ i. c .before .before .before .before .before .before .before .before .shared-slice-known .given i .fits)) (c .before .before .before .before .before .before .before .before .before .pre .layout) (c .before .before .before .before .before .before .before .before .before .pre .accepted) (c .before .before .before .anchor-of .result) (anchor-below (now (c .before .before .before .before .before .before .before .before .before .args .file)) (all-bytes (now (c .before .before .before .before .before .before .before .before .before .args .file)) (λ i. c .before .before .before .before .before .before .before .before .shared-slice-known .given i .fits)) (c .before .before .before .before .before .before .before .before .before .pre .layout) (c .before .before .before .before .before .before .before .before .before .pre .accepted) (c .before .before .before .before .before .before .before .before .before .args .v) (below-in (now (c .before .before .before .before .before .before .before .before .before .args .file)) (c .before .before .before .before .before .before .before .before .before .args .n) (c .before .before .before .before .before .before .before .before .before .args .v) (now (c .before .before .before .before .before .before .before .before .before .args .row)) (c .before .before .before .before .before .before .before .before .before .pre) (c .before .before .before .before .before .before .before .before .before .pre .layout) (c .before .before .before .before .before .before .before .before .before .pre .accepted)) (sym (ap (λ (z : Place). leans (z .kind)) (c .before .before .before .before .before .before .place-of .ensures (c .before .before .before .before .before .before .before .before .before .pre .layout) (c .before .before .before .before .before .before .before .before .before .pre .accepted))) ∙ sym (c .before .before .before .before .before .type-leans .ensures) ∙ c .before .before .before .before .if1 .taken) (c .before .before .before .anchor-of .result) (c .before .before .before .anchor-of .ensures (c .before .before .before .before .before .before .before .before .before .pre .layout) (c .before .before .before .before .before .before .before .before .before .pre .accepted))) .0, ap (λ (z : Place). z .kind) (c .before .before .place-of2 .ensures (c .before .before .before .before .before .before .before .before .before .pre .layout) (c .before .before .before .before .before .before .before .before .before .pre .accepted))), λ z. kind-known (now (c .before .before .before .before .before .before .before .before .before .args .file)) (all-bytes (now (c .before .before .before .before .before .before .before .before .before .args .file)) (λ i. c .before .before .before .before .before .before .before .before .shared-slice-known .given i .fits)) (c .before .before .before .before .before .before .before .before .before .pre .layout) (c .before .before .before .before .before .before .before .before .before .pre .accepted) (c .before .before .before .anchor-of .result) (anchor-below (now (c .before .before .before .before .before .before .before .before .before .args .file)) (all-bytes (now (c .before .before .before .before .before .before .before .before .before .args .file)) (λ i. c .before .before .before .before .before .before .before .before .shared-slice-known .given i .fits)) (c .before .before .before .before .before .before .before .before .before .pre .layout) (c .before .before .before .before .before .before .before .before .before .pre .accepted) (c .before .before .before .before .before .before .before .before .before .args .v) (below-in (now (c .before .before .before .before .before .before .before .before .before .args .file)) (c .before .before .before .before .before .before .before .before .before .args .n) (c .before .before .before .before .before .before .before .before .before .args .v) (now (c .before .before .before .before .before .before .before .before .before .args .row)) (c .before .before .before .before .before .before .before .before .before .pre) (c .before .before .before .before .before .before .before .before .before .pre .layout) (c .before .before .before .before .before .before .before .before .before .pre .accepted)) (sym (ap (λ (z : Place). leans (z .kind)) (c .before .before .before .before .before .before .place-of .ensures (c .before .before .before .before .before .before .before .before .before .pre .layout) (c .before .before .before .before .before .before .before .before .before .pre .accepted))) ∙ sym (c .before .before .before .before .before .type-leans .ensures) ∙ c .before .before .before .before .if1 .taken) (c .before .before .before .anchor-of .result) (c .before .before .before .anchor-of .ensures (c .before .before .before .before .before .before .before .before .before .pre .layout) (c .before .before .before .before .before .before .before .before .before .pre .accepted))) .1 (sym (ap (λ (z : Place). z .kind) (c .before .before .place-of2 .ensures (c .before .before .before .before .before .before .before .before .before .pre .layout) (c .before .before .before .before .before .before .before .before .before .pre .accepted))) ∙ z)))
+read-body-requires c κs = ((omega (arith, cut-end (now (c .before .before .before .before .before .before .before .before .before .args .file)) (all-bytes (now (c .before .before .before .before .before .before .before .before .before .args .file)) (λ i. c .before .before .before .before .before .before .before .before .shared-slice-known .given i .fits)) (c .before .before .before .before .before .before .before .before .before .pre .layout) (c .before .before .before .before .before .before .before .before .before .pre .accepted) (c .before .before .before .anchor-of .result) (anchor-below (now (c .before .before .before .before .before .before .before .before .before .args .file)) (all-bytes (now (c .before .before .before .before .before .before .before .before .before .args .file)) (λ i. c .before .before .before .before .before .before .before .before .shared-slice-known .given i .fits)) (c .before .before .before .before .before .before .before .before .before .pre .layout) (c .before .before .before .before .before .before .before .before .before .pre .accepted) (c .before .before .before .before .before .before .before .before .before .args .v) (below-in (now (c .before .before .before .before .before .before .before .before .before .args .file)) (c .before .before .before .before .before .before .before .before .before .args .n) (c .before .before .before .before .before .before .before .before .before .args .v) (now (c .before .before .before .before .before .before .before .before .before .args .row)) (c .before .before .before .before .before .before .before .before .before .pre) (c .before .before .before .before .before .before .before .before .before .pre .layout) (c .before .before .before .before .before .before .before .before .before .pre .accepted)) (sym (ap (λ (z : Place). leans (z .kind)) (c .before .before .before .before .before .before .place-of .ensures (c .before .before .before .before .before .before .before .before .before .pre .layout) (c .before .before .before .before .before .before .before .before .before .pre .accepted))) ∙ sym (c .before .before .before .before .before .type-leans .ensures) ∙ c .before .before .before .before .if1 .taken) (c .before .before .before .anchor-of .result) (c .before .before .before .anchor-of .ensures (c .before .before .before .before .before .before .before .before .before .pre .layout) (c .before .before .before .before .before .before .before .before .before .pre .accepted))) ((c .before .before .place-of2 .result) .start) ((c .before .before .place-of2 .result) .end) ((c .before .before .place-of2 .result) .kind) (c .before .before .place-of2 .ensures (c .before .before .before .before .before .before .before .before .before .pre .layout) (c .before .before .before .before .before .before .before .before .before .pre .accepted)), rises (now (c .before .before .before .before .before .before .before .before .before .args .file)) (all-bytes (now (c .before .before .before .before .before .before .before .before .before .args .file)) (λ i. c .before .before .before .before .before .before .before .before .shared-slice-known .given i .fits)) (c .before .before .before .before .before .before .before .before .before .pre .layout) (c .before .before .before .before .before .before .before .before .before .pre .accepted) (c .before .before .before .anchor-of .result) (anchor-below (now (c .before .before .before .before .before .before .before .before .before .args .file)) (all-bytes (now (c .before .before .before .before .before .before .before .before .before .args .file)) (λ i. c .before .before .before .before .before .before .before .before .shared-slice-known .given i .fits)) (c .before .before .before .before .before .before .before .before .before .pre .layout) (c .before .before .before .before .before .before .before .before .before .pre .accepted) (c .before .before .before .before .before .before .before .before .before .args .v) (below-in (now (c .before .before .before .before .before .before .before .before .before .args .file)) (c .before .before .before .before .before .before .before .before .before .args .n) (c .before .before .before .before .before .before .before .before .before .args .v) (now (c .before .before .before .before .before .before .before .before .before .args .row)) (c .before .before .before .before .before .before .before .before .before .pre) (c .before .before .before .before .before .before .before .before .before .pre .layout) (c .before .before .before .before .before .before .before .before .before .pre .accepted)) (sym (ap (λ (z : Place). leans (z .kind)) (c .before .before .before .before .before .before .place-of .ensures (c .before .before .before .before .before .before .before .before .before .pre .layout) (c .before .before .before .before .before .before .before .before .before .pre .accepted))) ∙ sym (c .before .before .before .before .before .type-leans .ensures) ∙ c .before .before .before .before .if1 .taken) (c .before .before .before .anchor-of .result) (c .before .before .before .anchor-of .ensures (c .before .before .before .before .before .before .before .before .before .pre .layout) (c .before .before .before .before .before .before .before .before .before .pre .accepted))) ((c .before .before .place-of2 .result) .start) ((c .before .before .place-of2 .result) .end) ((c .before .before .place-of2 .result) .kind) (c .before .before .place-of2 .ensures (c .before .before .before .before .before .before .before .before .before .pre .layout) (c .before .before .before .before .before .before .before .before .before .pre .accepted))), omega (arith, samples-most (now (c .before .before .before .before .before .before .before .before .before .args .file)) (all-bytes (now (c .before .before .before .before .before .before .before .before .before .args .file)) (λ i. c .before .before .before .before .before .before .before .before .shared-slice-known .given i .fits)) (c .before .before .before .before .before .before .before .before .before .pre .layout) (c .before .before .before .before .before .before .before .before .before .pre .accepted), (samples-in (now (c .before .before .before .before .before .before .before .before .before .args .file)) (c .before .before .before .before .before .before .before .before .before .args .n) (c .before .before .before .before .before .before .before .before .before .args .v) (now (c .before .before .before .before .before .before .before .before .before .args .row)) (c .before .before .before .before .before .before .before .before .before .pre) (c .before .before .before .before .before .before .before .before .before .pre .layout) (c .before .before .before .before .before .before .before .before .before .pre .accepted))), omega (arith, c .before .before .before .before .before .before .before .before .before .pre .room)), (omega (arith, kind-known (now (c .before .before .before .before .before .before .before .before .before .args .file)) (all-bytes (now (c .before .before .before .before .before .before .before .before .before .args .file)) (λ i. c .before .before .before .before .before .before .before .before .shared-slice-known .given i .fits)) (c .before .before .before .before .before .before .before .before .before .pre .layout) (c .before .before .before .before .before .before .before .before .before .pre .accepted) (c .before .before .before .anchor-of .result) (anchor-below (now (c .before .before .before .before .before .before .before .before .before .args .file)) (all-bytes (now (c .before .before .before .before .before .before .before .before .before .args .file)) (λ i. c .before .before .before .before .before .before .before .before .shared-slice-known .given i .fits)) (c .before .before .before .before .before .before .before .before .before .pre .layout) (c .before .before .before .before .before .before .before .before .before .pre .accepted) (c .before .before .before .before .before .before .before .before .before .args .v) (below-in (now (c .before .before .before .before .before .before .before .before .before .args .file)) (c .before .before .before .before .before .before .before .before .before .args .n) (c .before .before .before .before .before .before .before .before .before .args .v) (now (c .before .before .before .before .before .before .before .before .before .args .row)) (c .before .before .before .before .before .before .before .before .before .pre) (c .before .before .before .before .before .before .before .before .before .pre .layout) (c .before .before .before .before .before .before .before .before .before .pre .accepted)) (sym (ap (λ (z : Place). leans (z .kind)) (c .before .before .before .before .before .before .place-of .ensures (c .before .before .before .before .before .before .before .before .before .pre .layout) (c .before .before .before .before .before .before .before .before .before .pre .accepted))) ∙ sym (c .before .before .before .before .before .type-leans .ensures) ∙ c .before .before .before .before .if1 .taken) (c .before .before .before .anchor-of .result) (c .before .before .before .anchor-of .ensures (c .before .before .before .before .before .before .before .before .before .pre .layout) (c .before .before .before .before .before .before .before .before .before .pre .accepted))) .0, ap (λ (z : Place). z .kind) (c .before .before .place-of2 .ensures (c .before .before .before .before .before .before .before .before .before .pre .layout) (c .before .before .before .before .before .before .before .before .before .pre .accepted))), λ z. kind-known (now (c .before .before .before .before .before .before .before .before .before .args .file)) (all-bytes (now (c .before .before .before .before .before .before .before .before .before .args .file)) (λ i. c .before .before .before .before .before .before .before .before .shared-slice-known .given i .fits)) (c .before .before .before .before .before .before .before .before .before .pre .layout) (c .before .before .before .before .before .before .before .before .before .pre .accepted) (c .before .before .before .anchor-of .result) (anchor-below (now (c .before .before .before .before .before .before .before .before .before .args .file)) (all-bytes (now (c .before .before .before .before .before .before .before .before .before .args .file)) (λ i. c .before .before .before .before .before .before .before .before .shared-slice-known .given i .fits)) (c .before .before .before .before .before .before .before .before .before .pre .layout) (c .before .before .before .before .before .before .before .before .before .pre .accepted) (c .before .before .before .before .before .before .before .before .before .args .v) (below-in (now (c .before .before .before .before .before .before .before .before .before .args .file)) (c .before .before .before .before .before .before .before .before .before .args .n) (c .before .before .before .before .before .before .before .before .before .args .v) (now (c .before .before .before .before .before .before .before .before .before .args .row)) (c .before .before .before .before .before .before .before .before .before .pre) (c .before .before .before .before .before .before .before .before .before .pre .layout) (c .before .before .before .before .before .before .before .before .before .pre .accepted)) (sym (ap (λ (z : Place). leans (z .kind)) (c .before .before .before .before .before .before .place-of .ensures (c .before .before .before .before .before .before .before .before .before .pre .layout) (c .before .before .before .before .before .before .before .before .before .pre .accepted))) ∙ sym (c .before .before .before .before .before .type-leans .ensures) ∙ c .before .before .before .before .if1 .taken) (c .before .before .before .anchor-of .result) (c .before .before .before .anchor-of .ensures (c .before .before .before .before .before .before .before .before .before .pre .layout) (c .before .before .before .before .before .before .before .before .before .pre .accepted))) .1 (sym (ap (λ (z : Place). z .kind) (c .before .before .place-of2 .ensures (c .before .before .before .before .before .before .before .before .before .pre .layout) (c .before .before .before .before .before .before .before .before .before .pre .accepted))) ∙ z)))
 
 enum-known-got : tie.Need-enum-known-got
 enum-known-got c = search needs
@@ -44,13 +45,13 @@ slice-aggregate-read-body-2 : tie.Need-slice-aggregate-read-body-2
 slice-aggregate-read-body-2 c = sym (cut-end (now (c .before .before .before .before .before .before .before .before .before .before .before .before .before .before .before .args .file)) (all-bytes (now (c .before .before .before .before .before .before .before .before .before .before .before .before .before .before .before .args .file)) (λ i. c .before .before .before .before .before .before .before .before .before .before .before .before .before .before .shared-slice-known .given i .fits)) (c .before .before .before .before .before .before .before .before .before .before .before .before .before .before .before .pre .layout) (c .before .before .before .before .before .before .before .before .before .before .before .before .before .before .before .pre .accepted) (c .before .before .before .before .before .before .before .before .before .before .before .before .before .before .before .args .v) (below-in (now (c .before .before .before .before .before .before .before .before .before .before .before .before .before .before .before .args .file)) (c .before .before .before .before .before .before .before .before .before .before .before .before .before .before .before .args .n) (c .before .before .before .before .before .before .before .before .before .before .before .before .before .before .before .args .v) (now (c .before .before .before .before .before .before .before .before .before .before .before .before .before .before .before .args .row)) (c .before .before .before .before .before .before .before .before .before .before .before .before .before .before .before .pre) (c .before .before .before .before .before .before .before .before .before .before .before .before .before .before .before .pre .layout) (c .before .before .before .before .before .before .before .before .before .before .before .before .before .before .before .pre .accepted)) ((c .before .before .before .before .before .before .before .before .before .before .before .before .place-of .result) .start) ((c .before .before .before .before .before .before .before .before .before .before .before .before .place-of .result) .end) ((c .before .before .before .before .before .before .before .before .before .before .before .before .place-of .result) .kind) (c .before .before .before .before .before .before .before .before .before .before .before .before .place-of .ensures (c .before .before .before .before .before .before .before .before .before .before .before .before .before .before .before .pre .layout) (c .before .before .before .before .before .before .before .before .before .before .before .before .before .before .before .pre .accepted)))
 
 read-body-requires-2 : tie.Need-read-body-requires-2
-read-body-requires-2 c κs = ((omega (arith, cut-end (now (c .before .before .before .before .before .before .before .before .before .before .before .before .before .before .before .before .args .file)) (all-bytes (now (c .before .before .before .before .before .before .before .before .before .before .before .before .before .before .before .before .args .file)) (λ i. c .before .before .before .before .before .before .before .before .before .before .before .before .before .before .before .shared-slice-known .given i .fits)) (c .before .before .before .before .before .before .before .before .before .before .before .before .before .before .before .before .pre .layout) (c .before .before .before .before .before .before .before .before .before .before .before .before .before .before .before .before .pre .accepted) (c .before .before .before .before .before .before .before .before .before .before .before .before .before .before .before .before .args .v) (below-in (now (c .before .before .before .before .before .before .before .before .before .before .before .before .before .before .before .before .args .file)) (c .before .before .before .before .before .before .before .before .before .before .before .before .before .before .before .before .args .n) (c .before .before .before .before .before .before .before .before .before .before .before .before .before .before .before .before .args .v) (now (c .before .before .before .before .before .before .before .before .before .before .before .before .before .before .before .before .args .row)) (c .before .before .before .before .before .before .before .before .before .before .before .before .before .before .before .before .pre) (c .before .before .before .before .before .before .before .before .before .before .before .before .before .before .before .before .pre .layout) (c .before .before .before .before .before .before .before .before .before .before .before .before .before .before .before .before .pre .accepted)) ((c .before .before .before .before .before .before .before .before .before .before .before .before .before .place-of .result) .start) ((c .before .before .before .before .before .before .before .before .before .before .before .before .before .place-of .result) .end) ((c .before .before .before .before .before .before .before .before .before .before .before .before .before .place-of .result) .kind) (c .before .before .before .before .before .before .before .before .before .before .before .before .before .place-of .ensures (c .before .before .before .before .before .before .before .before .before .before .before .before .before .before .before .before .pre .layout) (c .before .before .before .before .before .before .before .before .before .before .before .before .before .before .before .before .pre .accepted)), rises (now (c .before .before .before .before .before .before .before .before .before .before .before .before .before .before .before .before .args .file)) (all-bytes (now (c .before .before .before .before .before .before .before .before .before .before .before .before .before .before .before .before .args .file)) (λ i. c .before .before .before .before .before .before .before .before .before .before .before .before .before .before .before .shared-slice-known .given i .fits)) (c .before .before .before .before .before .before .before .before .before .before .before .before .before .before .before .before .pre .layout) (c .before .before .before .before .before .before .before .before .before .before .before .before .before .before .before .before .pre .accepted) (c .before .before .before .before .before .before .before .before .before .before .before .before .before .before .before .before .args .v) (below-in (now (c .before .before .before .before .before .before .before .before .before .before .before .before .before .before .before .before .args .file)) (c .before .before .before .before .before .before .before .before .before .before .before .before .before .before .before .before .args .n) (c .before .before .before .before .before .before .before .before .before .before .before .before .before .before .before .before .args .v) (now (c .before .before .before .before .before .before .before .before .before .before .before .before .before .before .before .before .args .row)) (c .before .before .before .before .before .before .before .before .before .before .before .before .before .before .before .before .pre) (c .before .before .before .before .before .before .before .before .before .before .before .before .before .before .before .before .pre .layout) (c .before .before .before .before .before .before .before .before .before .before .before .before .before .before .before .before .pre .accepted)) ((c .before .before .before .before .before .before .before .before .before .before .before .before .before .place-of .result) .start) ((c .before .before .before .before .before .before .before .before .before .before .before .before .before .place-of .result) .end) ((c .before .before .before .before .before .before .before .before .before .before .before .before .before .place-of .result) .kind) (c .before .before .before .before .before .before .before .before .before .before .before .before .before .place-of .ensures (c .before .before .before .before .before .before .before .before .before .before .before .before .before .before .before .before .pre .layout) (c .before .before .before .before .before .before .before .before .before .before .before .before .before .before .before .before .pre .accepted))), omega (arith, few-samples (now (c .before .before .before .before .before .before .before .before .before .before .before .before .before .before .before .before .args .file)) (all-bytes (now (c .before .before .before .before .before .before .before .before .before .before .before .before .before .before .before .before .args .file)) (λ i. c .before .before .before .before .before .before .before .before .before .before .before .before .before .before .before .shared-slice-known .given i .fits)) (c .before .before .before .before .before .before .before .before .before .before .before .before .before .before .before .before .pre .layout) (c .before .before .before .before .before .before .before .before .before .before .before .before .before .before .before .before .pre .accepted), (samples-in (now (c .before .before .before .before .before .before .before .before .before .before .before .before .before .before .before .before .args .file)) (c .before .before .before .before .before .before .before .before .before .before .before .before .before .before .before .before .args .n) (c .before .before .before .before .before .before .before .before .before .before .before .before .before .before .before .before .args .v) (now (c .before .before .before .before .before .before .before .before .before .before .before .before .before .before .before .before .args .row)) (c .before .before .before .before .before .before .before .before .before .before .before .before .before .before .before .before .pre) (c .before .before .before .before .before .before .before .before .before .before .before .before .before .before .before .before .pre .layout) (c .before .before .before .before .before .before .before .before .before .before .before .before .before .before .before .before .pre .accepted))), omega (arith, c .before .before .before .before .before .before .before .before .before .before .before .before .before .before .before .before .pre .room)), (omega (arith, kind-known (now (c .before .before .before .before .before .before .before .before .before .before .before .before .before .before .before .before .args .file)) (all-bytes (now (c .before .before .before .before .before .before .before .before .before .before .before .before .before .before .before .before .args .file)) (λ i. c .before .before .before .before .before .before .before .before .before .before .before .before .before .before .before .shared-slice-known .given i .fits)) (c .before .before .before .before .before .before .before .before .before .before .before .before .before .before .before .before .pre .layout) (c .before .before .before .before .before .before .before .before .before .before .before .before .before .before .before .before .pre .accepted) (c .before .before .before .before .before .before .before .before .before .before .before .before .before .before .before .before .args .v) (below-in (now (c .before .before .before .before .before .before .before .before .before .before .before .before .before .before .before .before .args .file)) (c .before .before .before .before .before .before .before .before .before .before .before .before .before .before .before .before .args .n) (c .before .before .before .before .before .before .before .before .before .before .before .before .before .before .before .before .args .v) (now (c .before .before .before .before .before .before .before .before .before .before .before .before .before .before .before .before .args .row)) (c .before .before .before .before .before .before .before .before .before .before .before .before .before .before .before .before .pre) (c .before .before .before .before .before .before .before .before .before .before .before .before .before .before .before .before .pre .layout) (c .before .before .before .before .before .before .before .before .before .before .before .before .before .before .before .before .pre .accepted)) .0, ap (λ (z : Place). z .kind) (c .before .before .before .before .before .before .before .before .before .before .before .before .before .place-of .ensures (c .before .before .before .before .before .before .before .before .before .before .before .before .before .before .before .before .pre .layout) (c .before .before .before .before .before .before .before .before .before .before .before .before .before .before .before .before .pre .accepted))), λ z. kind-known (now (c .before .before .before .before .before .before .before .before .before .before .before .before .before .before .before .before .args .file)) (all-bytes (now (c .before .before .before .before .before .before .before .before .before .before .before .before .before .before .before .before .args .file)) (λ i. c .before .before .before .before .before .before .before .before .before .before .before .before .before .before .before .shared-slice-known .given i .fits)) (c .before .before .before .before .before .before .before .before .before .before .before .before .before .before .before .before .pre .layout) (c .before .before .before .before .before .before .before .before .before .before .before .before .before .before .before .before .pre .accepted) (c .before .before .before .before .before .before .before .before .before .before .before .before .before .before .before .before .args .v) (below-in (now (c .before .before .before .before .before .before .before .before .before .before .before .before .before .before .before .before .args .file)) (c .before .before .before .before .before .before .before .before .before .before .before .before .before .before .before .before .args .n) (c .before .before .before .before .before .before .before .before .before .before .before .before .before .before .before .before .args .v) (now (c .before .before .before .before .before .before .before .before .before .before .before .before .before .before .before .before .args .row)) (c .before .before .before .before .before .before .before .before .before .before .before .before .before .before .before .before .pre) (c .before .before .before .before .before .before .before .before .before .before .before .before .before .before .before .before .pre .layout) (c .before .before .before .before .before .before .before .before .before .before .before .before .before .before .before .before .pre .accepted)) .1 (sym (ap (λ (z : Place). z .kind) (c .before .before .before .before .before .before .before .before .before .before .before .before .before .place-of .ensures (c .before .before .before .before .before .before .before .before .before .before .before .before .before .before .before .before .pre .layout) (c .before .before .before .before .before .before .before .before .before .before .before .before .before .before .before .before .pre .accepted))) ∙ z)))
+read-body-requires-2 c κs = ((omega (arith, cut-end (now (c .before .before .before .before .before .before .before .before .before .before .before .before .before .before .before .before .args .file)) (all-bytes (now (c .before .before .before .before .before .before .before .before .before .before .before .before .before .before .before .before .args .file)) (λ i. c .before .before .before .before .before .before .before .before .before .before .before .before .before .before .before .shared-slice-known .given i .fits)) (c .before .before .before .before .before .before .before .before .before .before .before .before .before .before .before .before .pre .layout) (c .before .before .before .before .before .before .before .before .before .before .before .before .before .before .before .before .pre .accepted) (c .before .before .before .before .before .before .before .before .before .before .before .before .before .before .before .before .args .v) (below-in (now (c .before .before .before .before .before .before .before .before .before .before .before .before .before .before .before .before .args .file)) (c .before .before .before .before .before .before .before .before .before .before .before .before .before .before .before .before .args .n) (c .before .before .before .before .before .before .before .before .before .before .before .before .before .before .before .before .args .v) (now (c .before .before .before .before .before .before .before .before .before .before .before .before .before .before .before .before .args .row)) (c .before .before .before .before .before .before .before .before .before .before .before .before .before .before .before .before .pre) (c .before .before .before .before .before .before .before .before .before .before .before .before .before .before .before .before .pre .layout) (c .before .before .before .before .before .before .before .before .before .before .before .before .before .before .before .before .pre .accepted)) ((c .before .before .before .before .before .before .before .before .before .before .before .before .before .place-of .result) .start) ((c .before .before .before .before .before .before .before .before .before .before .before .before .before .place-of .result) .end) ((c .before .before .before .before .before .before .before .before .before .before .before .before .before .place-of .result) .kind) (c .before .before .before .before .before .before .before .before .before .before .before .before .before .place-of .ensures (c .before .before .before .before .before .before .before .before .before .before .before .before .before .before .before .before .pre .layout) (c .before .before .before .before .before .before .before .before .before .before .before .before .before .before .before .before .pre .accepted)), rises (now (c .before .before .before .before .before .before .before .before .before .before .before .before .before .before .before .before .args .file)) (all-bytes (now (c .before .before .before .before .before .before .before .before .before .before .before .before .before .before .before .before .args .file)) (λ i. c .before .before .before .before .before .before .before .before .before .before .before .before .before .before .before .shared-slice-known .given i .fits)) (c .before .before .before .before .before .before .before .before .before .before .before .before .before .before .before .before .pre .layout) (c .before .before .before .before .before .before .before .before .before .before .before .before .before .before .before .before .pre .accepted) (c .before .before .before .before .before .before .before .before .before .before .before .before .before .before .before .before .args .v) (below-in (now (c .before .before .before .before .before .before .before .before .before .before .before .before .before .before .before .before .args .file)) (c .before .before .before .before .before .before .before .before .before .before .before .before .before .before .before .before .args .n) (c .before .before .before .before .before .before .before .before .before .before .before .before .before .before .before .before .args .v) (now (c .before .before .before .before .before .before .before .before .before .before .before .before .before .before .before .before .args .row)) (c .before .before .before .before .before .before .before .before .before .before .before .before .before .before .before .before .pre) (c .before .before .before .before .before .before .before .before .before .before .before .before .before .before .before .before .pre .layout) (c .before .before .before .before .before .before .before .before .before .before .before .before .before .before .before .before .pre .accepted)) ((c .before .before .before .before .before .before .before .before .before .before .before .before .before .place-of .result) .start) ((c .before .before .before .before .before .before .before .before .before .before .before .before .before .place-of .result) .end) ((c .before .before .before .before .before .before .before .before .before .before .before .before .before .place-of .result) .kind) (c .before .before .before .before .before .before .before .before .before .before .before .before .before .place-of .ensures (c .before .before .before .before .before .before .before .before .before .before .before .before .before .before .before .before .pre .layout) (c .before .before .before .before .before .before .before .before .before .before .before .before .before .before .before .before .pre .accepted))), omega (arith, samples-most (now (c .before .before .before .before .before .before .before .before .before .before .before .before .before .before .before .before .args .file)) (all-bytes (now (c .before .before .before .before .before .before .before .before .before .before .before .before .before .before .before .before .args .file)) (λ i. c .before .before .before .before .before .before .before .before .before .before .before .before .before .before .before .shared-slice-known .given i .fits)) (c .before .before .before .before .before .before .before .before .before .before .before .before .before .before .before .before .pre .layout) (c .before .before .before .before .before .before .before .before .before .before .before .before .before .before .before .before .pre .accepted), (samples-in (now (c .before .before .before .before .before .before .before .before .before .before .before .before .before .before .before .before .args .file)) (c .before .before .before .before .before .before .before .before .before .before .before .before .before .before .before .before .args .n) (c .before .before .before .before .before .before .before .before .before .before .before .before .before .before .before .before .args .v) (now (c .before .before .before .before .before .before .before .before .before .before .before .before .before .before .before .before .args .row)) (c .before .before .before .before .before .before .before .before .before .before .before .before .before .before .before .before .pre) (c .before .before .before .before .before .before .before .before .before .before .before .before .before .before .before .before .pre .layout) (c .before .before .before .before .before .before .before .before .before .before .before .before .before .before .before .before .pre .accepted))), omega (arith, c .before .before .before .before .before .before .before .before .before .before .before .before .before .before .before .before .pre .room)), (omega (arith, kind-known (now (c .before .before .before .before .before .before .before .before .before .before .before .before .before .before .before .before .args .file)) (all-bytes (now (c .before .before .before .before .before .before .before .before .before .before .before .before .before .before .before .before .args .file)) (λ i. c .before .before .before .before .before .before .before .before .before .before .before .before .before .before .before .shared-slice-known .given i .fits)) (c .before .before .before .before .before .before .before .before .before .before .before .before .before .before .before .before .pre .layout) (c .before .before .before .before .before .before .before .before .before .before .before .before .before .before .before .before .pre .accepted) (c .before .before .before .before .before .before .before .before .before .before .before .before .before .before .before .before .args .v) (below-in (now (c .before .before .before .before .before .before .before .before .before .before .before .before .before .before .before .before .args .file)) (c .before .before .before .before .before .before .before .before .before .before .before .before .before .before .before .before .args .n) (c .before .before .before .before .before .before .before .before .before .before .before .before .before .before .before .before .args .v) (now (c .before .before .before .before .before .before .before .before .before .before .before .before .before .before .before .before .args .row)) (c .before .before .before .before .before .before .before .before .before .before .before .before .before .before .before .before .pre) (c .before .before .before .before .before .before .before .before .before .before .before .before .before .before .before .before .pre .layout) (c .before .before .before .before .before .before .before .before .before .before .before .before .before .before .before .before .pre .accepted)) .0, ap (λ (z : Place). z .kind) (c .before .before .before .before .before .before .before .before .before .before .before .before .before .place-of .ensures (c .before .before .before .before .before .before .before .before .before .before .before .before .before .before .before .before .pre .layout) (c .before .before .before .before .before .before .before .before .before .before .before .before .before .before .before .before .pre .accepted))), λ z. kind-known (now (c .before .before .before .before .before .before .before .before .before .before .before .before .before .before .before .before .args .file)) (all-bytes (now (c .before .before .before .before .before .before .before .before .before .before .before .before .before .before .before .before .args .file)) (λ i. c .before .before .before .before .before .before .before .before .before .before .before .before .before .before .before .shared-slice-known .given i .fits)) (c .before .before .before .before .before .before .before .before .before .before .before .before .before .before .before .before .pre .layout) (c .before .before .before .before .before .before .before .before .before .before .before .before .before .before .before .before .pre .accepted) (c .before .before .before .before .before .before .before .before .before .before .before .before .before .before .before .before .args .v) (below-in (now (c .before .before .before .before .before .before .before .before .before .before .before .before .before .before .before .before .args .file)) (c .before .before .before .before .before .before .before .before .before .before .before .before .before .before .before .before .args .n) (c .before .before .before .before .before .before .before .before .before .before .before .before .before .before .before .before .args .v) (now (c .before .before .before .before .before .before .before .before .before .before .before .before .before .before .before .before .args .row)) (c .before .before .before .before .before .before .before .before .before .before .before .before .before .before .before .before .pre) (c .before .before .before .before .before .before .before .before .before .before .before .before .before .before .before .before .pre .layout) (c .before .before .before .before .before .before .before .before .before .before .before .before .before .before .before .before .pre .accepted)) .1 (sym (ap (λ (z : Place). z .kind) (c .before .before .before .before .before .before .before .before .before .before .before .before .before .place-of .ensures (c .before .before .before .before .before .before .before .before .before .before .before .before .before .before .before .before .pre .layout) (c .before .before .before .before .before .before .before .before .before .before .before .before .before .before .before .before .pre .accepted))) ∙ z)))
 
 slice-aggregate-read-body-3 : tie.Need-slice-aggregate-read-body-3
 slice-aggregate-read-body-3 c = sym (cut-end (now (c .before .before .before .before .before .before .args .file)) (all-bytes (now (c .before .before .before .before .before .before .args .file)) (λ i. c .before .before .before .before .before .shared-slice-known .given i .fits)) (c .before .before .before .before .before .before .pre .layout) (c .before .before .before .before .before .before .pre .accepted) (c .before .before .before .before .before .before .args .v) (below-in (now (c .before .before .before .before .before .before .args .file)) (c .before .before .before .before .before .before .args .n) (c .before .before .before .before .before .before .args .v) (now (c .before .before .before .before .before .before .args .row)) (c .before .before .before .before .before .before .pre) (c .before .before .before .before .before .before .pre .layout) (c .before .before .before .before .before .before .pre .accepted)) ((c .before .before .before .place-of .result) .start) ((c .before .before .before .place-of .result) .end) ((c .before .before .before .place-of .result) .kind) (c .before .before .before .place-of .ensures (c .before .before .before .before .before .before .pre .layout) (c .before .before .before .before .before .before .pre .accepted)))
 
 read-body-requires-3 : tie.Need-read-body-requires-3
-read-body-requires-3 c κs = ((omega (arith, cut-end (now (c .before .before .before .before .before .before .before .args .file)) (all-bytes (now (c .before .before .before .before .before .before .before .args .file)) (λ i. c .before .before .before .before .before .before .shared-slice-known .given i .fits)) (c .before .before .before .before .before .before .before .pre .layout) (c .before .before .before .before .before .before .before .pre .accepted) (c .before .before .before .before .before .before .before .args .v) (below-in (now (c .before .before .before .before .before .before .before .args .file)) (c .before .before .before .before .before .before .before .args .n) (c .before .before .before .before .before .before .before .args .v) (now (c .before .before .before .before .before .before .before .args .row)) (c .before .before .before .before .before .before .before .pre) (c .before .before .before .before .before .before .before .pre .layout) (c .before .before .before .before .before .before .before .pre .accepted)) ((c .before .before .before .before .place-of .result) .start) ((c .before .before .before .before .place-of .result) .end) ((c .before .before .before .before .place-of .result) .kind) (c .before .before .before .before .place-of .ensures (c .before .before .before .before .before .before .before .pre .layout) (c .before .before .before .before .before .before .before .pre .accepted)), rises (now (c .before .before .before .before .before .before .before .args .file)) (all-bytes (now (c .before .before .before .before .before .before .before .args .file)) (λ i. c .before .before .before .before .before .before .shared-slice-known .given i .fits)) (c .before .before .before .before .before .before .before .pre .layout) (c .before .before .before .before .before .before .before .pre .accepted) (c .before .before .before .before .before .before .before .args .v) (below-in (now (c .before .before .before .before .before .before .before .args .file)) (c .before .before .before .before .before .before .before .args .n) (c .before .before .before .before .before .before .before .args .v) (now (c .before .before .before .before .before .before .before .args .row)) (c .before .before .before .before .before .before .before .pre) (c .before .before .before .before .before .before .before .pre .layout) (c .before .before .before .before .before .before .before .pre .accepted)) ((c .before .before .before .before .place-of .result) .start) ((c .before .before .before .before .place-of .result) .end) ((c .before .before .before .before .place-of .result) .kind) (c .before .before .before .before .place-of .ensures (c .before .before .before .before .before .before .before .pre .layout) (c .before .before .before .before .before .before .before .pre .accepted))), omega (arith, few-samples (now (c .before .before .before .before .before .before .before .args .file)) (all-bytes (now (c .before .before .before .before .before .before .before .args .file)) (λ i. c .before .before .before .before .before .before .shared-slice-known .given i .fits)) (c .before .before .before .before .before .before .before .pre .layout) (c .before .before .before .before .before .before .before .pre .accepted), (samples-in (now (c .before .before .before .before .before .before .before .args .file)) (c .before .before .before .before .before .before .before .args .n) (c .before .before .before .before .before .before .before .args .v) (now (c .before .before .before .before .before .before .before .args .row)) (c .before .before .before .before .before .before .before .pre) (c .before .before .before .before .before .before .before .pre .layout) (c .before .before .before .before .before .before .before .pre .accepted))), omega (arith, c .before .before .before .before .before .before .before .pre .room)), (omega (arith, kind-known (now (c .before .before .before .before .before .before .before .args .file)) (all-bytes (now (c .before .before .before .before .before .before .before .args .file)) (λ i. c .before .before .before .before .before .before .shared-slice-known .given i .fits)) (c .before .before .before .before .before .before .before .pre .layout) (c .before .before .before .before .before .before .before .pre .accepted) (c .before .before .before .before .before .before .before .args .v) (below-in (now (c .before .before .before .before .before .before .before .args .file)) (c .before .before .before .before .before .before .before .args .n) (c .before .before .before .before .before .before .before .args .v) (now (c .before .before .before .before .before .before .before .args .row)) (c .before .before .before .before .before .before .before .pre) (c .before .before .before .before .before .before .before .pre .layout) (c .before .before .before .before .before .before .before .pre .accepted)) .0, ap (λ (z : Place). z .kind) (c .before .before .before .before .place-of .ensures (c .before .before .before .before .before .before .before .pre .layout) (c .before .before .before .before .before .before .before .pre .accepted))), λ z. kind-known (now (c .before .before .before .before .before .before .before .args .file)) (all-bytes (now (c .before .before .before .before .before .before .before .args .file)) (λ i. c .before .before .before .before .before .before .shared-slice-known .given i .fits)) (c .before .before .before .before .before .before .before .pre .layout) (c .before .before .before .before .before .before .before .pre .accepted) (c .before .before .before .before .before .before .before .args .v) (below-in (now (c .before .before .before .before .before .before .before .args .file)) (c .before .before .before .before .before .before .before .args .n) (c .before .before .before .before .before .before .before .args .v) (now (c .before .before .before .before .before .before .before .args .row)) (c .before .before .before .before .before .before .before .pre) (c .before .before .before .before .before .before .before .pre .layout) (c .before .before .before .before .before .before .before .pre .accepted)) .1 (sym (ap (λ (z : Place). z .kind) (c .before .before .before .before .place-of .ensures (c .before .before .before .before .before .before .before .pre .layout) (c .before .before .before .before .before .before .before .pre .accepted))) ∙ z)))
+read-body-requires-3 c κs = ((omega (arith, cut-end (now (c .before .before .before .before .before .before .before .args .file)) (all-bytes (now (c .before .before .before .before .before .before .before .args .file)) (λ i. c .before .before .before .before .before .before .shared-slice-known .given i .fits)) (c .before .before .before .before .before .before .before .pre .layout) (c .before .before .before .before .before .before .before .pre .accepted) (c .before .before .before .before .before .before .before .args .v) (below-in (now (c .before .before .before .before .before .before .before .args .file)) (c .before .before .before .before .before .before .before .args .n) (c .before .before .before .before .before .before .before .args .v) (now (c .before .before .before .before .before .before .before .args .row)) (c .before .before .before .before .before .before .before .pre) (c .before .before .before .before .before .before .before .pre .layout) (c .before .before .before .before .before .before .before .pre .accepted)) ((c .before .before .before .before .place-of .result) .start) ((c .before .before .before .before .place-of .result) .end) ((c .before .before .before .before .place-of .result) .kind) (c .before .before .before .before .place-of .ensures (c .before .before .before .before .before .before .before .pre .layout) (c .before .before .before .before .before .before .before .pre .accepted)), rises (now (c .before .before .before .before .before .before .before .args .file)) (all-bytes (now (c .before .before .before .before .before .before .before .args .file)) (λ i. c .before .before .before .before .before .before .shared-slice-known .given i .fits)) (c .before .before .before .before .before .before .before .pre .layout) (c .before .before .before .before .before .before .before .pre .accepted) (c .before .before .before .before .before .before .before .args .v) (below-in (now (c .before .before .before .before .before .before .before .args .file)) (c .before .before .before .before .before .before .before .args .n) (c .before .before .before .before .before .before .before .args .v) (now (c .before .before .before .before .before .before .before .args .row)) (c .before .before .before .before .before .before .before .pre) (c .before .before .before .before .before .before .before .pre .layout) (c .before .before .before .before .before .before .before .pre .accepted)) ((c .before .before .before .before .place-of .result) .start) ((c .before .before .before .before .place-of .result) .end) ((c .before .before .before .before .place-of .result) .kind) (c .before .before .before .before .place-of .ensures (c .before .before .before .before .before .before .before .pre .layout) (c .before .before .before .before .before .before .before .pre .accepted))), omega (arith, samples-most (now (c .before .before .before .before .before .before .before .args .file)) (all-bytes (now (c .before .before .before .before .before .before .before .args .file)) (λ i. c .before .before .before .before .before .before .shared-slice-known .given i .fits)) (c .before .before .before .before .before .before .before .pre .layout) (c .before .before .before .before .before .before .before .pre .accepted), (samples-in (now (c .before .before .before .before .before .before .before .args .file)) (c .before .before .before .before .before .before .before .args .n) (c .before .before .before .before .before .before .before .args .v) (now (c .before .before .before .before .before .before .before .args .row)) (c .before .before .before .before .before .before .before .pre) (c .before .before .before .before .before .before .before .pre .layout) (c .before .before .before .before .before .before .before .pre .accepted))), omega (arith, c .before .before .before .before .before .before .before .pre .room)), (omega (arith, kind-known (now (c .before .before .before .before .before .before .before .args .file)) (all-bytes (now (c .before .before .before .before .before .before .before .args .file)) (λ i. c .before .before .before .before .before .before .shared-slice-known .given i .fits)) (c .before .before .before .before .before .before .before .pre .layout) (c .before .before .before .before .before .before .before .pre .accepted) (c .before .before .before .before .before .before .before .args .v) (below-in (now (c .before .before .before .before .before .before .before .args .file)) (c .before .before .before .before .before .before .before .args .n) (c .before .before .before .before .before .before .before .args .v) (now (c .before .before .before .before .before .before .before .args .row)) (c .before .before .before .before .before .before .before .pre) (c .before .before .before .before .before .before .before .pre .layout) (c .before .before .before .before .before .before .before .pre .accepted)) .0, ap (λ (z : Place). z .kind) (c .before .before .before .before .place-of .ensures (c .before .before .before .before .before .before .before .pre .layout) (c .before .before .before .before .before .before .before .pre .accepted))), λ z. kind-known (now (c .before .before .before .before .before .before .before .args .file)) (all-bytes (now (c .before .before .before .before .before .before .before .args .file)) (λ i. c .before .before .before .before .before .before .shared-slice-known .given i .fits)) (c .before .before .before .before .before .before .before .pre .layout) (c .before .before .before .before .before .before .before .pre .accepted) (c .before .before .before .before .before .before .before .args .v) (below-in (now (c .before .before .before .before .before .before .before .args .file)) (c .before .before .before .before .before .before .before .args .n) (c .before .before .before .before .before .before .before .args .v) (now (c .before .before .before .before .before .before .before .args .row)) (c .before .before .before .before .before .before .before .pre) (c .before .before .before .before .before .before .before .pre .layout) (c .before .before .before .before .before .before .before .pre .accepted)) .1 (sym (ap (λ (z : Place). z .kind) (c .before .before .before .before .place-of .ensures (c .before .before .before .before .before .before .before .pre .layout) (c .before .before .before .before .before .before .before .pre .accepted))) ∙ z)))
 
 same-length : tie.Need-same-length
 same-length c = search needs
