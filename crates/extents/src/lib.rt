@@ -64,7 +64,7 @@ pub fn type_of(file: &[u8], f: Fields, v: FileVariant) -> u8
 {
     let b = blocks_of(f);
     if type_place(b, v) < file.len() {
-        return type_at(file, b.at + block_of(v) * b.full, in_block(v).0, b.half);
+        return type_at(file, b.at + block_of(v) * b.full, in_block(v), b.half);
     }
     0
 }

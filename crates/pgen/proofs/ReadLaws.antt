@@ -28,7 +28,7 @@ use Rattle.record.specs.declared.RecordReply.{RecordReply}
 use Rattle.record.specs.declared.RecordReply.the-variants as of
 use Rattle.record.specs.Recorded.{done}
 use Rattle.reader.specs.Rows.{HasVariantRow, cleared, row-left, row-read}
-use Rattle.reader.proofs.Cut.{obeys, written}
+use Rattle.extents.proofs.AcceptedLaws.{obeys, written}
 use Rattle.reader.proofs.Replies.{row-of, WasRead, row-accepted, row-refused}
 use Rattle.pgen.proofs.WorkLaws.{header-keeps, record-clears}
 

@@ -5,10 +5,11 @@ ghost use lib.ListN.{length};
 ghost use Rattle.reader.specs.Rows.{HasRow};
 use blocks::fields_at;
 use blocks::header_end;
+use extents::kind_of;
+use extents::size_of;
 use format::FileVariant;
 use format::HeaderReply;
 use packed::copy;
-use places::extent_of;
 use record::read_body;
 use types::type_leans;
 
@@ -59,12 +60,12 @@ fn put_rows(file: &[u8], anchor: &mut [u8], row: &mut [u8], out: &mut [u8], at: 
     let mut filled = at;
     let mut v: usize = 0;
     while v < m {
-        let x = extent_of(file, f, FileVariant(v));
-        let end = start + x.size;
+        let kind = kind_of(file, f, FileVariant(v));
+        let end = start + size_of(file, f, FileVariant(v));
         copy(anchor, n, row);
-        read_body(&file[..end], start, n, x.kind, false, row);
-        filled = put_row(out, filled, v, x.kind, &row[..n]);
-        keep_anchor(x.kind, row, n, anchor);
+        read_body(&file[..end], start, n, kind, false, row);
+        filled = put_row(out, filled, v, kind, &row[..n]);
+        keep_anchor(kind, row, n, anchor);
         start = end;
         v = v + 1;
     }

@@ -18,7 +18,8 @@ use Rattle.format.proofs.HeaderLaws.{IsLayout, layout-as-written}
 use Rattle.format.proofs.StartLaws.{body-length-at, body-at-is, record-end}
 use Rattle.places.specs.declared.Place.{Place}
 use Rattle.places.specs.Located.{HasVariant, HasLayout, place-in}
-use Rattle.places.proofs.AcceptedLaws.{obeys, written, record-ends}
+use Rattle.extents.proofs.AcceptedLaws.{obeys, written}
+use Rattle.places.proofs.AcceptedLaws.{record-ends}
 
 -- an accepted reply: the file has a layout
 pub reply-accepted : (bs : List ℕ) (mode variants samples form : ℕ) → Bytes bs → header-left (Accepted mode variants samples form) ≡ header-call 65536 bs
@@ -64,12 +65,12 @@ module _ (bs : List ℕ) (v : FileVariant) (h : HasVariant bs v) (y : Bytes bs) 
   part-rises = omega (arith, ends)
 
   pub part-inside : p .end ≤ length bs
-  part-inside = omega (arith, ends, record-ends bs v h y, ap (λ (z : Place). z .start) e)
+  part-inside = omega (arith, ends, record-ends bs y (h .layout) (h .accepted) v (h .below), ap (λ (z : Place). z .start) e)
 
   pub part-is : take (p .end - p .start) (drop (p .start) bs) ≡ getD (h .layout .bodies) (v .0) []
   part-is =
       let l : Layout = h .layout in
       let n : p .end - p .start ≡ getD (body-lengths l) (v .0) 0 = omega (arith, ends, body-length-at v l) in
       let s : p .start ≡ record-start 65536 l v = ap (λ (z : Place). z .start) e in
-      rw (n, s) (ap (λ (z : List ℕ). take (getD (body-lengths l) (v .0) 0) (drop (record-start 65536 l v) z)) (written bs v h y)
-      ∙ body-at-is 65536 v l (lit< tt) (obeys bs v h y) (h .below))
+      rw (n, s) (ap (λ (z : List ℕ). take (getD (body-lengths l) (v .0) 0) (drop (record-start 65536 l v) z)) (written bs y (h .layout) (h .accepted))
+      ∙ body-at-is 65536 v l (lit< tt) (obeys bs y (h .layout) (h .accepted)) (h .below))

@@ -1,5 +1,3 @@
 pub mod StepLaws
 pub mod StartLaws
 pub mod RecordLaws
-pub mod FileLaws
-pub mod RowsAreReads

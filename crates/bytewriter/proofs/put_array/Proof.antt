@@ -20,25 +20,45 @@ in-byte-requires : tie.Need-in-byte-requires Inv-loop μ-loop
 in-byte-requires c κs = search needs
 
 loop-holds : tie.Need-loop-holds Inv-loop μ-loop
-loop-holds c = start (c .before .before .before .args .array) (c .before .before .before .args .categories .now) (c .before .before .before .args .output .now) (c .before .before .before .args .at)
+loop-holds c =
+    let args = c .before .before .before .args in
+    start (args .array) (args .categories .now) (args .output .now) (args .at)
 
 byte-of-requires : tie.Need-byte-of-requires Inv-loop μ-loop
 byte-of-requires c κs = search needs
 
 slice-write-output : tie.Need-slice-write-output Inv-loop μ-loop
-slice-write-output c = omega (arith, turn-room (c .before .before .loop .inv) (c .before .loop-test .taken), (c .before .before .loop .inv .keeps), (c .before .before .before .before .before .before .pre .1))
+slice-write-output c =
+    let loop = c .before .before .loop in
+    let loop-test = c .before .loop-test in
+    let pre = c .before .before .before .before .before .before .pre in
+    omega (arith, turn-room (loop .inv) (loop-test .taken), (loop .inv .keeps), (pre .1))
 
 add-place : tie.Need-add-place Inv-loop μ-loop
-add-place c = omega (arith, turn-room (c .before .before .loop .inv) (c .before .loop-test .taken), (c .before .before .loop .inv .keeps), (c .before .before .before .before .before .before .pre .1), (c .before .before .before .before .before .before .good))
+add-place c =
+    let loop = c .before .before .loop in
+    let loop-test = c .before .loop-test in
+    let pre = c .before .before .before .before .before .before .pre in
+    let good = c .before .before .before .before .before .before .good in
+    omega (arith, turn-room (loop .inv) (loop-test .taken), (loop .inv .keeps), (pre .1), good)
 
 add-i : tie.Need-add-i Inv-loop μ-loop
-add-i c = omega (arith, more-few (c .before .before .before .before .before .before .args .array), (c .before .before .before .in-byte .ensures), (c .before .before .before .before .before .before .good), (c .before .loop-test .taken))
+add-i c =
+    let args = c .before .before .before .before .before .before .args in
+    let in-byte = c .before .before .before .in-byte in
+    let good = c .before .before .before .before .before .before .good in
+    let loop-test = c .before .loop-test in
+    omega (arith, more-few (args .array), (in-byte .ensures), good, (loop-test .taken))
 
 loop-less : tie.Need-loop-less Inv-loop μ-loop
 loop-less c = search needs
 
 loop-again : tie.Need-loop-again Inv-loop μ-loop
-loop-again c = turn-next (c .before .before .loop .inv) (c .before .loop-test .taken) (c .byte-of .result) (c .before .before .before .in-byte .result) (c .byte-of .ensures) (c .before .before .before .in-byte .ensures)
+loop-again c =
+    let loop = c .before .before .loop in
+    let loop-test = c .before .loop-test in
+    let in-byte = c .before .before .before .in-byte in
+    turn-next (loop .inv) (loop-test .taken) (c .byte-of .result) (in-byte .result) (c .byte-of .ensures) (in-byte .ensures)
 
 same-length : tie.Need-same-length Inv-loop μ-loop
 same-length c = (c .before .loop .inv .keeps)

@@ -65,10 +65,15 @@ number-from-requires c κs =
 
 returns : tie.Need-returns
 returns c =
-    let a = c .before .before .before .before .before .before .before .before .before .before .before .args in
-    let b = c .before .before .before .before .before .before .before .before .before .blocks-of in
-    length-is (b .result) (fixed (a .f)) (b .ensures .0) (a .file .now) (a .v) (c .before .before .before .before .before .before .before .before .block-of .result) (c .before .before .before .before .before .before .before .before .block-of .ensures) (c .before .before .before .before .before .before .before .in-block .result) (c .before .before .before .before .before .before .before .in-block .ensures)
-    (a .f .variants) (c .before .before .before .before .count-in .result) (c .before .before .before .types-size .result) (c .number-from .result) refl (c .before .before .before .before .count-in .ensures .0) (c .before .before .before .types-size .ensures) (c .number-from .ensures)
+    let blocks-of = c .before .before .before .before .before .before .before .before .before .blocks-of in
+    let args = c .before .before .before .before .before .before .before .before .before .before .before .args in
+    let block-of = c .before .before .before .before .before .before .before .before .block-of in
+    let in-block = c .before .before .before .before .before .before .before .in-block in
+    let count-in = c .before .before .before .before .count-in in
+    let types-size = c .before .before .before .types-size in
+    let b = blocks-of in length-is (b .result) (fixed (args .f)) (b .ensures .0) (args .file .now) (args .v) (block-of .result) (block-of .ensures)
+    (in-block .result) (in-block .ensures) (args .f .variants) (count-in .result) (types-size .result) (c .number-from .result) refl
+    (count-in .ensures .0) (types-size .ensures) (c .number-from .ensures)
 
 pub length-of-spec : {M : Type 1} → statement M
 length-of-spec =

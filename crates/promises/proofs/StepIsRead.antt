@@ -27,7 +27,7 @@ use Rattle.format.proofs.BodyLaws.{IsBody, body-as-written}
 use Rattle.format.proofs.RowLaws.{body-row}
 use Rattle.format.proofs.OffsetsLaws.{from-1-to-most}
 use Rattle.format.proofs.AnchorLaws.{types-allowed-at, anchor-after-leaning, anchor-after-standing}
-use Rattle.format.proofs.StartLaws.{body-length-at}
+use Rattle.format.proofs.StartLaws.{body-length-at, record-end}
 use Rattle.format.proofs.FileLaws.{one-type-each, bodies-are-bytes}
 use Rattle.format.proofs.InOrderLaws.{stands-alike}
 use Rattle.format.proofs.RecordTurns.{record-over}
@@ -36,14 +36,14 @@ use Rattle.blocks.specs.Parts.{fields-of}
 use Rattle.extents.specs.Extent.{kind-at, size-at}
 use Rattle.extents.proofs.FoundLaws.{kinds-found, sizes-found}
 use Rattle.places.specs.declared.Place.{Place}
-use Rattle.places.specs.declared.Extent.{Extent}
-use Rattle.places.specs.Located.{place-in, extent-in}
+use Rattle.places.specs.Located.{place-in}
 use Rattle.reader.specs.Rows.{row-left as row-in}
-use Rattle.reader.proofs.Cut.{obeys, written, body-is-bytes, few-samples, walk-place, inside, recorded-is}
+use Rattle.extents.proofs.AcceptedLaws.{obeys, written, samples-most}
+use Rattle.reader.proofs.Cut.{body-is-bytes, inside, recorded-is}
 use Rattle.reader.proofs.OneLaws.{read-too}
 use Rattle.rows.specs.declared.Rows.{Rows}
 use Rattle.rows.specs.Calls.{next-record, Left, alone, leaning, read-at, over-anchor, stepped, next-row-call}
 use Rattle.rows.proofs.RecordLaws.{record-there}
 
 -- the state before variant v of a layout
 abbrev pub state : Layout → ℕ → ℕ → ℕ → Rows
@@ -108,14 +108,15 @@ module _ (file : List ℕ) (y : Bytes file) (l : Layout) (a : read-layout 65536 
   size-is = ap (λ (bs : List ℕ). size-at 65536 (fixed-of l) bs here) (written file y l a)
       ∙ sizes-found 65536 l (lit< tt) (obeys file y l a) (joined (l .bodies)) here b ∙ body-length-at here l
 
-  abbrev extent : Extent
-  extent = record { size = size-at 65536 (fixed-of l) file here; kind = kind-at 65536 (fixed-of l) file here }
+  abbrev size : ℕ
+  size = size-at 65536 (fixed-of l) file here
 
-  extent-is : extent ≡ extent-in l here
-  extent-is = ap₂ (λ (s k : ℕ). record { size = s; kind = k }) size-is kind-is
+  abbrev kind : ℕ
+  kind = kind-at 65536 (fixed-of l) file here
 
-  place-is : _≡_ {A = Place} (record { start = record-start 65536 l here; end = record-start 65536 l here + extent .size; kind = extent .kind }) at
-  place-is = walk-place file y l a here b (record-start 65536 l here) refl extent extent-is
+  place-is : _≡_ {A = Place} (record { start = record-start 65536 l here; end = record-start 65536 l here + size; kind = kind }) at
+  place-is =
+      ap₂ (λ (end type : ℕ). record { start = record-start 65536 l here; end = end; kind = type }) (omega (arith, size-is, record-end 65536 here l b)) kind-is
 
   type-is-allowed : type-allowed (in-block 65536 here) (kind-at 65536 (fixed-of l) file here) ≡ true
   type-is-allowed =
@@ -130,8 +131,8 @@ module _ (file : List ℕ) (y : Bytes file) (l : Layout) (a : read-layout 65536 
     found-there : (output work : ℕ) → N ≤ output → N ≤ work → next-record st file output work ≡ ok at []
     found-there output work o w =
         sym (record-there st file output work (from-1-to-most most-variants (length (l .bodies)) (obeys file y l a .fixed .variants))
-        (few-samples file y l a) o w b type-is-allowed
-        (inside file y l a here b (record-start 65536 l here) (record-start 65536 l here + extent .size) (extent .kind) place-is))
+        (samples-most file y l a) o w b type-is-allowed
+        (inside file y l a here b (record-start 65536 l here) (record-start 65536 l here + size) kind place-is))
         ∙ ap (λ (p : Place). ok p []) place-is
 
     -- and read

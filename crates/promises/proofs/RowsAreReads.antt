@@ -22,12 +22,14 @@ use Rattle.format.proofs.AnchorLaws.{stands-at}
 use Rattle.format.proofs.FileLaws.{one-type-each}
 use Rattle.format.proofs.HeaderLaws.{IsLayout, layout-as-written}
 use Rattle.blocks.specs.Parts.{fields-of}
-use Rattle.reader.proofs.Cut.{obeys, few-samples}
+use Rattle.extents.proofs.AcceptedLaws.{obeys, samples-most}
 use Rattle.rows.specs.declared.Rows.{Rows}
+use Rattle.rows.specs.declared.RowsReply.{RowsReply}
 use Rattle.rows.specs.declared.RowsReply.the-variants.{Started}
+use Rattle.rows.specs.declared.RowStep.{RowStep}
 use Rattle.rows.specs.Calls.{first-row, started, start-rows-call, Left, row-left, answered, next-row-call}
 use Rattle.rows.proofs.RecordLaws.{short-output, no-variant, not-found}
-use Rattle.rows.proofs.FileLaws.{state, Before, reply-of, steps}
+use Rattle.promises.proofs.StepIsRead.{state, Before, reply-of, steps}
 
 -- ---- the calls, one after another
 
@@ -102,13 +104,13 @@ module _ (file work₀ : List ℕ) (y : Bytes file) (l : Layout) (a : read-layou
     too-short h =
         rw (k .state-is)
         (not-found (state l v (k .refusal) (k .place)) file output work 10 0
-        (short-output (state l v (k .refusal) (k .place)) file (length output) (length work) few (few-samples file y l a) h))
+        (short-output (state l v (k .refusal) (k .place)) file (length output) (length work) few (samples-most file y l a) h))
 
     none-left : N ≤ length output → M ≤ v → row-left (answered rows (Refused 11 0)) output work ≡ next-row-call rows file output work
     none-left o h =
         rw (k .state-is)
         (not-found (state l v (k .refusal) (k .place)) file output work 11 0
-        (no-variant (state l v (k .refusal) (k .place)) file (length output) (length work) few (few-samples file y l a) o (omega (arith, k .holds)) h))
+        (no-variant (state l v (k .refusal) (k .place)) file (length output) (length work) few (samples-most file y l a) o (omega (arith, k .holds)) h))
 
   -- ---- what a read gives
 
@@ -181,3 +183,14 @@ rows-are-reads file work rows y e outputs v each output =
     (sym (s .rows-are))
     (gives file work y l (s .is-accepted) (s .room) v (walked file outputs (record { rows = first-row l; work = work }) v) output
     (reach file work y l (s .is-accepted) (s .room) outputs v (λ u h. subst (λ (r : Rows). r .fields .samples ≤ length (outputs u)) (s .rows-are) (each u h))))
+
+-- ---- 01, How far each contract reaches: "Prove that two replies allowed by it are equal"
+
+pub start-rows-unique : (file work : List ℕ) (r s : RowsReply) → r ≡ start-rows-call file work → s ≡ start-rows-call file work → r ≡ s
+start-rows-unique file work r s p q = p ∙ sym q
+
+pub next-row-unique : (rows : Rows) (file output work o₁ o₂ w₁ w₂ : List ℕ) (r s : RowStep)
+    → row-left r o₁ w₁ ≡ next-row-call rows file output work → row-left s o₂ w₂ ≡ next-row-call rows file output work → (r ≡ s) × (o₁ ≡ o₂) × (w₁ ≡ w₂)
+next-row-unique rows file output work o₁ o₂ w₁ w₂ r s p q =
+    let e : row-left r o₁ w₁ ≡ row-left s o₂ w₂ = p ∙ sym q in
+    (ap (λ (z : Left). z .step) e, ap (λ (z : Left). z .output) e, ap (λ (z : Left). z .work) e)
