@@ -3,7 +3,7 @@
 #include "make.h"
 #include "measure.h"
 
-static u8 out_1[70000], out_2[70000], work_1[70000], work_2[70000], set[1000];
+static u8 out_1[66000], out_2[66000], work_1[66000], work_2[66000], set[1000];
 static usize counts[22], compared;
 
 static void reset(void)
@@ -30,6 +30,21 @@ static void same_file(const char *what, struct file_told a, struct file_told b)
     same(what, (struct told){a.refusal, a.place, 0}, (struct told){b.refusal, b.place, 0});
 }
 
+// Each row of a walk through the file is what a read of that variant gives.
+static void all_rows(struct file f)
+{
+    reset();
+    struct rows r = timed_start_rows(f.bytes, f.size, work_1, sizeof work_1);
+    struct file_told header = plain_header_check(f.bytes, f.size);
+    if (r.refusal != header.refusal || r.place != header.place) fail("start of rows");
+    for (usize v = 0; v < f.variants && header.refusal == 0; v++) {
+        r = timed_next_row(r, f.bytes, f.size, out_1, sizeof out_1, work_1, sizeof work_1);
+        struct told told = plain_read(f.bytes, f.size, v, out_2, sizeof out_2, work_2, sizeof work_2);
+        if (r.refusal != told.refusal || r.place != told.place || memcmp(out_1, out_2, sizeof out_1)) fail("row");
+        compared++;
+    }
+}
+
 static void one_file(struct file f, u8 *twin)
 {
     usize work_size = rnd() % 30 ? sizeof work_1 : rnd() % (f.samples + 1), variant = rnd() % (f.variants + 1);
@@ -39,6 +54,8 @@ static void one_file(struct file f, u8 *twin)
     reset();
     same("read", timed_read(f.bytes, f.size, variant, out_1, sizeof out_1, work_1, work_size),
          plain_read(f.bytes, f.size, variant, out_2, sizeof out_2, work_2, work_size));
+    all_rows(f);
+    reset();
     for (usize i = 0; i < sizeof set; i++) set[i] = rnd();
     usize set_size = (f.variants + 7) / 8;
     if (f.variants % 8 && rnd() % 20) set[set_size - 1] &= (1 << f.variants % 8) - 1;

@@ -27,7 +27,9 @@ static void same_check(const char *what)
     if (memcmp(&check_1, &check_2, sizeof check_1) || memcmp(work_1, work_2, sizeof work_1) || check_1.refusal) fail(what);
 }
 
-static void copy(void *on) { memcpy(copied, file.bytes, file.size); }
+static usize to_copy;
+
+static void copy(void *on) { memcpy(copied, file.bytes, to_copy); }
 static void header_ours(void *on) { check_1 = timed_header_check(file.bytes, file.size); }
 static void header_plain(void *on) { check_2 = plain_header_check(file.bytes, file.size); }
 static void check_ours(void *on) { check_1 = timed_check(file.bytes, file.size, work_1, sizeof work_1); }
@@ -37,24 +39,23 @@ static void read_plain(void *on) { told_2 = plain_read(file.bytes, file.size, va
 static void flip_ours(void *on) { told_1 = timed_flip(file.bytes, file.size, set, (file.variants + 7) / 8, work_1, sizeof work_1); }
 static void flip_plain(void *on) { told_2 = plain_flip(twin.bytes, twin.size, set, (file.variants + 7) / 8, work_2, sizeof work_2); }
 
-#ifdef ROWS
 static void rows_ours(void *on)
 {
     struct rows r = timed_start_rows(file.bytes, file.size, work_1, sizeof work_1);
     sum_1 = 0;
-    if (r.told.refusal) return;
+    if (r.refusal) return;
     for (usize v = 1; v <= file.variants; v++) {
         r = timed_next_row(r, file.bytes, file.size, row, sizeof row, work_1, sizeof work_1);
-        if (r.told.refusal) return;
+        if (r.refusal) return;
         sum_1 += row[v % file.samples] + 4 * row[file.samples - 1];
     }
 }
-#endif
+
 static void rows_plain(void *on) { sum_2 = plain_rows(file.bytes, file.size, other, work_2); }
 
 static void line(const char *what, double bytes, double ours, double plain, double copy)
 {
-    printf("| %s | %.1f | %.1f | %.1f | %.2f | %.2f | %.1f |\n", what, bytes / 1e6, ours * 1e3, plain * 1e3, bytes / ours / 1e9, plain / ours, copy * 1e3);
+    printf("| %s | %.1f | %.2f | %.2f | %.2f | %.2f | %.2f |\n", what, bytes / 1e6, ours * 1e3, plain * 1e3, bytes / ours / 1e9, plain / ours, copy * 1e3);
 }
 
 static void head(const char *of)
@@ -67,6 +68,7 @@ static void three(const char *what, double bytes, work *ours, work *plain, doubl
     work *works[] = {ours, plain, copy};
     void *on[3] = {0};
     double least[3];
+    to_copy = bytes;
     take_turns(works, on, 3, 50, seconds, least);
     line(what, bytes, least[0], least[1], least[2]);
 }
@@ -87,15 +89,8 @@ static void headers(void)
             same_check("header check");
             if (check_1.variants != counts[k]) fail("header check");
             // memcpy of the header alone: the rest is not read
-            work *works[] = {header_ours, header_plain, copy};
-            void *on[3] = {0};
-            double least[3], copies[1];
-            take_turns(works, on, 2, 200, 0.7, least);
-            file.size = size;
-            take_turns(works + 2, on, 1, 20, 0.2, copies);
-            file.size = whole;
             snprintf(what, sizeof what, "M = %lu, %s types, lengths of %d", counts[k], forms[f] % 16 < 4 ? "4-bit" : "8-bit", forms[f] % 4 + 1);
-            line(what, size, least[0], least[1], copies[0]);
+            three(what, size, header_ours, header_plain, 1);
             munmap(file.bytes, whole + 4096);
             munmap(copied, size + 4096);
         }
@@ -113,6 +108,7 @@ static void take_file(const struct bodies *b, usize variants)
         if (rnd() % 3 == 0) set[v / 8] |= 1 << v % 8;
     memset(row, 0, sizeof row);
     memset(other, 0, sizeof other);
+    to_copy = file.size;
     copy(0);
 }
 
@@ -139,11 +135,8 @@ static void flip_both(void)
 
 static void rows_both(void)
 {
-#ifdef ROWS
     rows_ours(0), rows_plain(0);
     if (sum_1 != sum_2 || sum_1 == 0 || memcmp(row, other, sizeof row)) fail("rows");
-    memset(work_1, 0, sizeof work_1);
-#endif
 }
 
 // Every variant of the first block's start, and some all over the file, read by both.
@@ -211,12 +204,10 @@ static void files(void)
         three("header check (MB of the header)", header, header_ours, header_plain, 0.5);
         check_both();
         three("whole-file check", file.size, check_ours, check_plain, 8);
-#ifdef ROWS
         rows_both();
         three("rows over the file", file.size, rows_ours, rows_plain, 8);
         memset(work_1, 0, sizeof work_1);
         memset(work_2, 0, sizeof work_2);
-#endif
         read_both();
         variant = file.variants - 1;
         three("read of the last variant (MB of the header)", header, read_ours, read_plain, 0.5);
@@ -232,32 +223,21 @@ static void files(void)
 static void growth(void)
 {
     static const usize samples[2] = {2000, 20000};
-    printf("\n| Growth: ns per byte | MB | check | check in C | %sflip | flip in C |\n|---|---|---|---|%s---|---|\n",
-#ifdef ROWS
-           "rows | rows in C | ", "---|---|"
-#else
-           "", ""
-#endif
-    );
+    printf("\n| Growth: ns per byte | MB | check | check in C | rows | rows in C | flip | flip in C |\n|---|---|---|---|---|---|---|---|\n");
     for (int k = 0; k < 2; k++) {
         struct bodies *b = make_bodies(samples[k], WHOLE);
         for (usize part = 8; part; part /= 2) {
             take_file(b, bodies_variants(b) / part);
-            check_both(), rows_both(), flip_both();
-            work *works[] = {check_ours, check_plain, flip_ours, flip_plain,
-#ifdef ROWS
-                             rows_ours, rows_plain
-#endif
-            };
+            check_both(), flip_both(), rows_both();
+            work *works[] = {check_ours, check_plain, rows_ours, rows_plain, flip_ours, flip_plain};
             void *on[6] = {0};
             double least[6];
-            take_turns(works, on, sizeof works / sizeof *works, 7, 10.0 / part, least);
-            double scale = 1e9 / file.size;
-            printf("| N = %lu, %lu times | %.1f | %.3f | %.3f | ", samples[k], 8 / part, file.size / 1e6, least[0] * scale, least[1] * scale);
-#ifdef ROWS
-            printf("%.3f | %.3f | ", least[4] * scale, least[5] * scale);
-#endif
-            printf("%.3f | %.3f |\n", least[2] * scale, least[3] * scale);
+            take_turns(works, on, 6, 7, 8.0 / part, least);
+            printf("| N = %lu, %lu times | %.1f |", samples[k], 8 / part, file.size / 1e6);
+            for (int i = 0; i < 6; i++) printf(" %.3f |", least[i] * 1e9 / file.size);
+            printf("\n");
+            memset(work_1, 0, sizeof work_1);
+            memset(work_2, 0, sizeof work_2);
             drop_file();
         }
     }

@@ -1,7 +1,7 @@
 -- The row that a list is made from and its base, sample by sample, and the list from a sample on.
 -- Assumes nothing.
 use mathlib.Core.Path.{_≡_, refl, sym, _∙_}
-use Prim.Native.Nat.{ℕ, zero, suc, _+_, _≤_, _<_}
+use Prim.Native.Nat.{ℕ, zero, suc, _+_, _-_, _≤_, _<_}
 use native.Mathlib.Omega.{arith}
 use native.Mathlib.Numerals.{add-one}
 use mathlib.Core.Bool.{Bool, true, false}
@@ -11,7 +11,7 @@ use lib.Seq.{drop-cons}
 use lib.Dec.{eqb}
 use borrow.Author.Tests.{eq-eqb, ne-eqb}
 use Rattle.format.specs.Base.{pick, Below}
-use Rattle.format.specs.Category.{exchange-if, exchange-all}
+use Rattle.format.specs.Category.{exchange, exchange-if, exchange-all}
 use Rattle.format.specs.Difflist.{Entry}
 use Rattle.format.specs.Writer.{unless, differences}
 use Rattle.format.proofs.CategoryLaws.{exchange-all-below}
@@ -21,13 +21,18 @@ use Rattle.listparts.specs.declared.Base.the-variants as base
 
 -- ---- the two rows
 
--- every category but 0 and 2 stays
-pub exchange-kept : (inverted : Bool) (n : ℕ) → (n ≡ 0 → ⊥) → (n ≡ 2 → ⊥) → n ≡ exchange-if inverted n
-exchange-kept false n a b = refl
-exchange-kept true zero a b = absurd (a refl)
-exchange-kept true (suc zero) a b = refl
-exchange-kept true (suc (suc zero)) a b = absurd (b refl)
-exchange-kept true (suc (suc (suc n))) a b = refl
+-- 0 and 2 change places, and every other category stays
+pub exchange-turned : (n : ℕ) → n < 3 → (n ≡ 1 → ⊥) → 2 - n ≡ exchange n
+exchange-turned zero h a = refl
+exchange-turned (suc zero) h a = absurd (a refl)
+exchange-turned (suc (suc zero)) h a = refl
+exchange-turned (suc (suc (suc n))) h a = absurd (omega arith)
+
+pub exchange-high : (n : ℕ) → 3 ≤ n → n ≡ exchange n
+exchange-high zero h = absurd (omega arith)
+exchange-high (suc zero) h = absurd (omega arith)
+exchange-high (suc (suc zero)) h = absurd (omega arith)
+exchange-high (suc (suc (suc n))) h = refl
 
 pub row-length : (b : Base) (categories : List ℕ) → length (row b categories) ≡ length categories
 row-length (base.Category category) categories = refl

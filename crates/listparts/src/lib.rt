@@ -50,12 +50,13 @@ pub struct Moved {
 fn exchange_if(inverted: bool, category: u8) -> u8
     ensures { λ r. ⌜ r ≡ exchange-if inverted category ⌝ }
 {
+    // as a difference, which the compiler computes with no jump: categories come in no order that a processor could foresee
     if inverted {
-        return match category {
-            0 => 2,
-            2 => 0,
-            other => other,
-        };
+        if category < 3 {
+            if category != 1 {
+                return 2 - category;
+            }
+        }
     }
     category
 }
