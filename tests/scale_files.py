@@ -3,8 +3,8 @@
 import random
 from pathlib import Path
 
-from pgen_cases import (FILE_CALLS, GREATEST_OUTPUT, WRITE, Case, Subject, file_case, header_fault_subject, near_base, random_writer_case,
-                        record_fault_subject, subject_of, valid_subject, with_argument_faults, with_output)
+from pgen_cases import (FILE_CALLS, GREATEST_OUTPUT, LOOKUP, READ, WRITE, Case, Subject, file_case, header_fault_subject, near_base,
+                        random_writer_case, record_fault_subject, subject_of, valid_subject, with_argument_faults, with_output)
 from pgen_generate import random_file, tiny_file
 from pgen_header import BLOCK_SIZE, read_header
 from pgen_header_damage import HEADER_FAULTS, changed_anywhere, offset_wrong, put
@@ -87,6 +87,15 @@ def record_and_header_fault(rng):
     file = bytearray(joined)
     rng.choice(HEADER_FAULTS)(rng, file, marks)
     return Subject(bytes(file), parts.M(), parts.N, variant, parts.types)
+
+
+def edge_cases(rng):
+    """Every call on files with something at an edge."""
+    for call in FILE_CALLS:
+        for family in (edge_varint, edge_header, record_and_header_fault, real_changed):
+            subject = family(rng)
+            case = file_case(rng, call, subject)
+            yield case._replace(x=subject.variant) if call in (READ, LOOKUP) else case
 
 
 FAMILIES = [("a record and the header", record_and_header_fault), ("a plink2 file changed", real_changed), ("a varint at an edge", edge_varint),
