@@ -13,7 +13,8 @@ import sys
 import tempfile
 
 from interop_faults import AS_EXPORTED, FAULTS, OTHER
-from interop_page import (ROOT, Page, counted, file_of, listed, our_check, our_flip, our_record, our_rows, run)
+from interop_page import Page, counted, file_of, listed, our_check, our_flip, our_record, our_rows, run
+from compare import ROOT
 from make_real import calls_of, rows_of
 from pgen_header import read_header
 
