@@ -26,6 +26,23 @@ LISTING_EVERY = 50
 SHOWN = 20
 
 
+def expected(case):
+    """The independent program's refusal and line; a fault of its own is a line that no probe prints."""
+    try:
+        numbers, buffers = reply_to(case)
+    except Exception as fault:
+        return None, f"the independent program failed: {fault!r}"
+    return numbers[0], line_of(numbers, buffers)
+
+
+def expected_listing(file):
+    """The independent program's listing, likewise."""
+    try:
+        return reference.listing(file)
+    except Exception as fault:
+        return f"the independent program failed: {fault!r}"
+
+
 class Portion:
     """Some files in a row: their cases joined for one run of the probe, and what came of them."""
 
@@ -47,11 +64,11 @@ class Portion:
         self.counts.file(name, file)
         for case in cases:
             self.data += input_bytes(case)
-            numbers, buffers = reply_to(case)
-            self.asked.append((number, case.call, line_of(numbers, buffers)))
-            self.counts.call(case, numbers[0])
+            refusal, line = expected(case)
+            self.asked.append((number, case.call, line))
+            self.counts.call(case, refusal)
         if number % LISTING_EVERY == 0:
-            want = reference.listing(file)
+            want = expected_listing(file)
             self.counts.listing(want)
             self.compare(number, "listing", run("pgenlist", file).decode(), want)
 
@@ -119,14 +136,14 @@ def one_file(words):
     print(f"seed {words.seed}, file {words.only}: damage {name}; {len(file)} bytes: {short(file.hex())}")
     same = True
     for at, case in enumerate(cases):
-        got, want = run("probe", input_bytes(case)).decode(), line_of(*reply_to(case)) + "\n"
+        got, want = run("probe", input_bytes(case)).decode(), expected(case)[1] + "\n"
         same = same and got == want
         print(f"{CALLS[case.call]}: x {case.x}, y {case.y}, lengths {len(case.first)} {len(case.second)}, output {case.output}, work {case.work}")
         print(f"  got  {short(got)}\n  want {short(want)}\n  {'same' if got == want else 'DIFFERENT'}")
         if words.keep:
             Path(words.keep).mkdir(parents=True, exist_ok=True)
             (Path(words.keep) / f"{words.only}-{at}.case").write_bytes(input_bytes(case))
-    got, want = run("pgenlist", file).decode(), reference.listing(file)
+    got, want = run("pgenlist", file).decode(), expected_listing(file)
     print(f"listing\n  got  {short(got)}\n  want {short(want)}\n  {'same' if got == want else 'DIFFERENT'}")
     return 0 if same and got == want else 1
 

@@ -50,7 +50,7 @@ class Counts:
         if case.call == WRITE:
             if number == 0:
                 self.of["kind", "written", case.x] += 1
-        elif self.header is not None and number not in range(1, 12):
+        elif self.header is not None and number is not None and number not in range(1, 12):
             self.kinds(case, number)
 
     def kinds(self, case, number):

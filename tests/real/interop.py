@@ -13,7 +13,8 @@ import sys
 import tempfile
 
 from interop_faults import AS_EXPORTED, FAULTS, OTHER
-from interop_page import (ROOT, Page, counted, file_of, listed, our_check, our_flip, our_record, our_rows, run)
+from interop_page import Page, counted, file_of, listed, our_check, our_flip, our_record, our_rows, run
+from compare import ROOT
 from make_real import calls_of, rows_of
 from pgen_header import read_header
 
@@ -68,7 +69,9 @@ def number_width(page):
         file = page.from_calls(f"list{N}", row)
         page.see(2, f"N = {N}: plink2's record; our whole-file check", (file[-len(record) // 2:].hex(), our_check(file)), (record, refusal))
         plain = page.made(f"plain{N}", "--pfile", f"list{N}", how=["format=2"])
-        page.see(2, f"N = {N} with format=2: our row is plink2's", our_rows(plain) == page.rows(f"list{N}"), True)
+        page.put("plain_flipped", our_flip(plain, [0]))
+        same = [our_rows(plain) == page.rows(f"list{N}"), page.rows("plain_flipped") == ["2" * 3 + "1" + "2" * (N - 5) + "3"]]
+        page.see(2, f"N = {N} with format=2: our row is plink2's; flipped by us, plink2's row is the flipped one", same, [True, True])
     page.see(2, "N = 256, ten files: what our reads give; rows misread", refusals_at(page, 256, 10), (["13", "16", "17", "18", "read"], 0))
     page.see(2, "N = 65,536, three files: the same", refusals_at(page, 65536, 3), (["16", "17", "18", "read"], 0))
     row = ["1/1"] * 256

@@ -5,7 +5,6 @@ from interop_page import CRASHED, REFUSES, file_of, listed
 N = 100
 ENTRIES = [(3, 1), (10, 2), (40, 3)]
 PLAIN = bytes(25)
-PAIR_BITS = b"\x55" * 12 + b"\x05"
 NO_LIST = b"\0"
 LONG_N = 600
 LONG = [(7 * k, 1) for k in range(70)]

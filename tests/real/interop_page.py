@@ -7,7 +7,7 @@ from pathlib import Path
 HERE = Path(__file__).resolve().parent
 sys.path.insert(0, str(HERE.parent))
 
-from compare import ROOT, run  # noqa: E402
+from compare import run  # noqa: E402
 from make_real import exported, vcf_of  # noqa: E402
 from pgen_cases import FLIP, READ, WHOLE_FILE, WRITE, Case  # noqa: E402
 from pgen_parts import FileParts, ListParts, RecordParts, join_file  # noqa: E402
