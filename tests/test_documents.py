@@ -27,7 +27,7 @@ class Documents(unittest.TestCase):
     def test_files_are_there(self):
         for document in DOCUMENTS:
             for span in spans(document):
-                if re.fullmatch(r"(crates|docs|tests|bench|examples|tools)/[\w./+-]+", span) and "CRATE" not in span:
+                if re.fullmatch(r"(crates|docs|tests|bench|examples|tools)/[\w./+-]+", span) and not re.search(r"CRATE|NAME", span):
                     path = ROOT / span
                     self.assertTrue(path.exists() or path.with_name(path.name + ".antt").exists(), f"{document.name}: {span}")
 
@@ -42,6 +42,12 @@ class Documents(unittest.TestCase):
         listed = set(spans(ROOT / "docs" / "THEOREMS.md"))
         for edit in edits():
             self.assertTrue(edit in listed or edit.split("/")[1] in listed, f"THEOREMS.md does not list {edit}")
+
+    def test_every_crate_has_its_place(self):
+        told = set(spans(ROOT / "docs" / "ARCHITECTURE.md"))
+        for line in (ROOT / "crates.txt").read_text(encoding="utf-8").splitlines():
+            if not line.startswith("#"):
+                self.assertTrue(line.split(":")[0] in told, f"ARCHITECTURE.md does not tell of {line}")
 
     def test_names_are_there(self):
         words = set()
