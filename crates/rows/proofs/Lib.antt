@@ -3,3 +3,4 @@ pub mod StartLaws
 pub mod RecordLaws
 pub mod FileLaws
 pub mod RowsAreReads
+pub mod Unique

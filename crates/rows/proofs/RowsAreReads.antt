@@ -12,7 +12,7 @@ use borrow.Author.Tests.{le-leb, lt-leb, lt-ltb, le-ltb, leb-true}
 use Rattle.format.specs.declared.Reply.the-variants.{Refused}
 use Rattle.format.specs.Base.{Bytes, Out, ok, refuse, bind, need}
 use Rattle.format.specs.Variant.{file-variant}
-use Rattle.format.specs.Layout.{most-variants, sum, header-end, Layout, fixed-of, record-start}
+use Rattle.format.specs.Layout.{most-samples, most-variants, sum, header-end, Layout, fixed-of, record-start}
 use Rattle.format.specs.Header.{read-layout}
 use Rattle.format.specs.File.{read-variant}
 use Rattle.format.specs.Reply.{given, holds-row, read-left, read-out, read-call}
@@ -64,6 +64,15 @@ from-start file work rows y e = go (read-layout 65536 file) refl (layout-as-writ
         → FromStart file work rows
     go (ok l left) a w q = sized l (a ∙ ap (ok l) (w .ended)) (holds-row work l) refl q
     go (refuse number place) a w q = absurd (let z : _≡_ {A = ℕ} 0 1 = cc in omega arith)
+
+-- M and N of a state that a start call gives
+pub started-small : (file work : List ℕ) (rows : Rows) → Bytes file → start-rows-call file work ≡ Started rows
+    → (rows .fields .variants ≤ most-variants) × (rows .fields .samples ≤ most-samples)
+started-small file work rows y e =
+    let s : FromStart file work rows = from-start file work rows y e in
+    let l : Layout = s .layout in
+    subst (λ (r : Rows). (r .fields .variants ≤ most-variants) × (r .fields .samples ≤ most-samples)) (sym (s .rows-are))
+    (from-1-to-most most-variants (length (l .bodies)) (obeys file y l (s .is-accepted) .fixed .variants), few-samples file y l (s .is-accepted))
 
 -- ---- what is to be shown
 
