@@ -1,33 +1,30 @@
 -- Started on a file and stepped, the v-th call gives exactly what `read` of variant v gives, refusals too.
 -- Assumes nothing.
-use mathlib.Core.Path.{_≡_, refl, sym, ap, _∙_, subst}
+use mathlib.Core.Path.{_≡_, refl, sym, ap, subst}
 use Prim.Native.Nat.{ℕ, zero, suc, _≤_, _<_}
 use native.Mathlib.Nat.{add-zero}
-use mathlib.Core.Bool.{Bool, true, false}
 use mathlib.Core.List.{List, [], _++_}
 use lib.ListN.{length, drop}
 use lib.Dec.{lit<}
 use native.Mathlib.Omega.{arith}
-use borrow.Author.Tests.{le-leb, lt-leb, lt-ltb, le-ltb, leb-true}
+use borrow.Author.Tests.{le-leb, lt-leb, lt-ltb, le-ltb}
 use Rattle.format.specs.declared.Reply.the-variants.{Refused}
-use Rattle.format.specs.Base.{Bytes, Out, ok, refuse, bind, need}
+use Rattle.format.specs.Base.{Bytes, Out, ok, refuse}
 use Rattle.format.specs.Variant.{file-variant}
 use Rattle.format.specs.Layout.{most-variants, sum, header-end, Layout, fixed-of, record-start}
 use Rattle.format.specs.Header.{read-layout}
 use Rattle.format.specs.File.{read-variant}
-use Rattle.format.specs.Reply.{given, holds-row, read-left, read-out, read-call}
-use Rattle.format.proofs.Rules.{Holds, split, never-both}
+use Rattle.format.specs.Reply.{given, read-left, read-out, read-call}
+use Rattle.format.proofs.Rules.{split, never-both}
 use Rattle.format.proofs.OffsetsLaws.{from-1-to-most}
 use Rattle.format.proofs.AnchorLaws.{stands-at}
 use Rattle.format.proofs.FileLaws.{one-type-each}
-use Rattle.format.proofs.HeaderLaws.{IsLayout, layout-as-written}
 use Rattle.blocks.specs.Parts.{fields-of}
 use Rattle.extents.proofs.AcceptedLaws.{obeys, samples-most}
 use Rattle.rows.specs.declared.Rows.{Rows}
-use Rattle.rows.specs.declared.RowsReply.{RowsReply}
 use Rattle.rows.specs.declared.RowsReply.the-variants.{Started}
-use Rattle.rows.specs.declared.RowStep.{RowStep}
-use Rattle.rows.specs.Calls.{first-row, started, start-rows-call, Left, row-left, answered, next-row-call}
+use Rattle.rows.specs.Calls.{first-row, start-rows-call, Left, row-left, answered, next-row-call}
+use Rattle.rows.proofs.Started.{FromStart, from-start}
 use Rattle.rows.proofs.RecordLaws.{short-output, no-variant, not-found}
 use Rattle.promises.proofs.StepIsRead.{state, Before, reply-of, steps}
 
@@ -45,27 +42,6 @@ after left = record { rows = left .step .rows; work = left .work }
 unfoldable pub walked : List ℕ → (ℕ → List ℕ) → At → ℕ → At
 walked file outputs at zero = at
 walked file outputs at (suc v) = after (next-row-call (walked file outputs at v .rows) file (outputs v) (walked file outputs at v .work))
-
--- ---- the start
-
-record FromStart (file work : List ℕ) (rows : Rows) : Type 0 where
-  layout : Layout
-  is-accepted : read-layout 65536 file ≡ ok layout []
-  room : layout .samples ≤ length work
-  rows-are : rows ≡ first-row layout
-
-from-start : (file work : List ℕ) (rows : Rows) → Bytes file → start-rows-call file work ≡ Started rows → FromStart file work rows
-unfolding start-rows-call
-from-start file work rows y e = go (read-layout 65536 file) refl (layout-as-written 65536 file (lit< tt) y) e
-  where
-    sized : (l : Layout) → read-layout 65536 file ≡ ok l [] → (b : Bool) → holds-row work l ≡ b → started (need b 10 0 (ok l [])) ≡ Started rows → FromStart file work rows
-    sized l a true h q = record { layout = l; is-accepted = a; room = leb-true (l .samples) (length work) h; rows-are = cc }
-    sized l a false h q = absurd (let z : _≡_ {A = ℕ} 0 1 = cc in omega arith)
-
-    go : (m : Out Layout) → read-layout 65536 file ≡ m → Holds (IsLayout 65536 file) m → started (bind m (λ l left. need (holds-row work l) 10 0 (ok l []))) ≡ Started rows
-        → FromStart file work rows
-    go (ok l left) a w q = sized l (a ∙ ap (ok l) (w .ended)) (holds-row work l) refl q
-    go (refuse number place) a w q = absurd (let z : _≡_ {A = ℕ} 0 1 = cc in omega arith)
 
 -- ---- what is to be shown
 
@@ -183,14 +159,3 @@ rows-are-reads file work rows y e outputs v each output =
     (sym (s .rows-are))
     (gives file work y l (s .is-accepted) (s .room) v (walked file outputs (record { rows = first-row l; work = work }) v) output
     (reach file work y l (s .is-accepted) (s .room) outputs v (λ u h. subst (λ (r : Rows). r .fields .samples ≤ length (outputs u)) (s .rows-are) (each u h))))
-
--- ---- 01, How far each contract reaches: "Prove that two replies allowed by it are equal"
-
-pub start-rows-unique : (file work : List ℕ) (r s : RowsReply) → r ≡ start-rows-call file work → s ≡ start-rows-call file work → r ≡ s
-start-rows-unique file work r s p q = p ∙ sym q
-
-pub next-row-unique : (rows : Rows) (file output work o₁ o₂ w₁ w₂ : List ℕ) (r s : RowStep)
-    → row-left r o₁ w₁ ≡ next-row-call rows file output work → row-left s o₂ w₂ ≡ next-row-call rows file output work → (r ≡ s) × (o₁ ≡ o₂) × (w₁ ≡ w₂)
-next-row-unique rows file output work o₁ o₂ w₁ w₂ r s p q =
-    let e : row-left r o₁ w₁ ≡ row-left s o₂ w₂ = p ∙ sym q in
-    (ap (λ (z : Left). z .step) e, ap (λ (z : Left). z .output) e, ap (λ (z : Left). z .work) e)
