@@ -16,7 +16,7 @@ use Rattle.format.specs.Track.{leans}
 use Rattle.format.specs.Variant.{block-of, in-block, in-file, nearest, anchor}
 use Rattle.format.specs.Layout.{plain-mode, sum, Layout, fixed-of, record-start}
 use Rattle.format.specs.Header.{read-layout}
-use Rattle.format.proofs.ByIndex.{number-at, numbers-at, digits-at, offset-at, start-at}
+use Rattle.format.proofs.ByIndex.{number-at, numbers-at, digits-at, lengths-place, offset-at, start-at}
 use Rattle.format.proofs.Rules.{by-test, never-both}
 use Rattle.format.proofs.StartLaws.{plain-type, start-at-is}
 use Rattle.format.proofs.RefusalsByIndex.{fixed-at}
@@ -26,7 +26,7 @@ use Rattle.blocks.specs.declared.Blocks.{Blocks}
 use Rattle.blocks.specs.Parts.{fixed, fields-of, blocks-of, BlocksSmall, count-in, BlocksFit}
 use Rattle.columns.proofs.Arrangement.{types-fit, lengths-fit, place-is, bits-are, width-is, lengths-place-is}
 use Rattle.header.proofs.BlockedLaws.{blocks-fit}
-use Rattle.extents.proofs.AcceptedLaws.{obeys, written, fields-are, count-is, few-variants}
+use Rattle.extents.proofs.AcceptedLaws.{obeys, written, fields-are, few-variants}
 use Rattle.places.specs.Located.{HasLeaner}
 use Rattle.places.proofs.AcceptedLaws.{record-ends, header-ends, below}
 
@@ -87,22 +87,23 @@ module _ (bs : List ℕ) (y : Bytes bs) (l : Layout) (a : read-layout 65536 bs �
 
     -- ---- where its record starts
 
-    module _ (n size : ℕ) (r : n ≡ count-in (f .variants) block) (s : size ≡ packed-size (pick (b .half) four eight) n) where
+    module _ (place : ℕ) (r : place ≡ lengths-place 65536 (fixed f) (block-of 65536 v)) where
       -- the lengths before its own are in the file
-      pub lengths-there : b .at + block * b .full + size + b .width * i .0 ≤ length bs
+      pub lengths-there : place + b .width * i .0 ≤ length bs
       lengths-there =
-          let g : b .at + block * b .full + size + b .width * n ≤ length bs = lengths-fit bs (f .variants) b block n size fit there r s in
-          let k : b .width * i .0 ≤ b .width * n = mul-le-mul-left (b .width) (omega (arith, r, number)) in
-          omega arith
+          let n : ℕ = count-in (f .variants) block in
+          let s : place ≡ b .at + block * b .full + packed-size (pick (b .half) four eight) n
+          = r ∙ ap (lengths-place 65536 (fixed f)) (sym p) ∙ sym (lengths-place-is (f .variants) b (fixed f) refl d block) in
+          let k : b .width * i .0 ≤ b .width * n = mul-le-mul-left (b .width) (omega (arith, number)) in
+          omega (arith, s, lengths-fit bs (f .variants) b block n (packed-size (pick (b .half) four eight) n) fit there refl refl)
 
-      module _ (offset before : ℕ) (o : offset ≡ number-at 8 (drop (12 + 8 * block) bs))
-          (w : before ≡ sum (numbers-at (b .width) (i .0) (drop (b .at + block * b .full + size) bs))) where
+      module _ (offset before : ℕ) (o : offset ≡ number-at 8 (drop (12 + 8 * block) bs)) (w : before ≡ sum (numbers-at (b .width) (i .0) (drop place bs))) where
         pub start-is : offset + before ≡ record-start 65536 l v
         unfolding start-at offset-at
         start-is =
             let t : start-at 65536 (fixed-of l) bs v ≡ record-start 65536 l v
             = ap (λ (z : List ℕ). start-at 65536 (fixed-of l) z v) (written bs y l a) ∙ start-at-is 65536 l (lit< tt) (obeys bs y l a) is-blocked v lt in
-            rw (o, w, s, r, lengths-place-is (f .variants) b (fixed-of l) (count-is bs y l a f e) blocks-are block, width-is b (fixed-of l) blocks-are, p, q) t
+            rw (o, w, r, fields-are bs y l a f e, width-is b (fixed-of l) blocks-are, p, q) t
 
         pub start-fits : offset + before ≤ length bs
         start-fits = omega (arith, start-is, record-ends bs y l a v lt)

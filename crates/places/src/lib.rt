@@ -14,8 +14,8 @@ use blocks::Fields;
 use blocks::blocks_of;
 use blocks::fields_at;
 use blocks::header_end;
-use columns::count_in;
 use extents::kind_of;
+use extents::lengths_place;
 use extents::size_of;
 use format::FileVariant;
 use format::block_of;
@@ -24,7 +24,6 @@ use format::in_file;
 use numbers::number_at;
 use numbers::sum_lengths;
 use types::nearest_before;
-use types::types_size;
 
 // A record's bytes are those from `start` to `end`; its type is its kind.
 pub struct Place {
@@ -41,7 +40,7 @@ fn start_in_block(file: &[u8], f: Fields, v: FileVariant) -> usize
     let b = blocks_of(f);
     let block = block_of(v);
     let i = in_block(v);
-    let lengths = b.at + block * b.full + types_size(count_in(f.variants, block), b.half);
+    let lengths = lengths_place(f, v);
     let start = number_at(file, 12 + 8 * block, 8) + sum_lengths(file, lengths, i.0, b.width);
     start as usize
 }
