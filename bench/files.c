@@ -197,7 +197,7 @@ struct told plain_read(const u8 *file, usize size, usize variant, u8 *output, us
     return told;
 }
 
-// All variants, each into the output; the anchor's row stays in the work area. Gives the sum of `probe` bytes of each output, 0 if refused.
+// All variants, each into the output; the anchor's row stays in the work area. Gives a sum over two categories of each row, 0 if refused.
 u64 plain_rows(const u8 *file, usize size, u8 *output, u8 *work)
 {
     struct header h;

@@ -63,7 +63,7 @@ static void rows_of(usize samples)
     line(what, unit, (double)(amount) * TIMES, ours_##name, plain_##name##_); \
     ours_##name(0);                                                           \
     plain_##name##_(0);
-    // a round does each as often, so the two rows stay equal; the last round may have ended between the two
+    // both are done as often, so the two rows stay equal
     LINE("unpack two bits", "output", n, two) same("unpack two bits");
     LINE("exchange of 0 and 2 in a row", "row", n, exchange) same("exchange in a row");
     plain_unpack_categories(packed, n, row), plain_unpack_categories(packed, n, other);
@@ -147,7 +147,8 @@ int main(void)
     }
     types[1][0] &= 0xf0;
     types[0][0] = 0;
-    for (half = 1; half < 2; half--) {
+    for (int four = 1; four >= 0; four--) {
+        half = four;
         if (timed_bad_in_block(types[half], 65536, 65536, half) != 65536 || plain_types_amiss(types[half], half ? 32768 : 65536, half)) fail("types");
         line(half ? "types of a block, 4 bits" : "types of a block, 8 bits", "bytes", (half ? 32768.0 : 65536.0) * TIMES, ours_types, plain_types_);
     }

@@ -3,6 +3,9 @@
 #define BENCH_MAKE_H
 #include "c.h"
 
+// About how many bytes the records of a whole file have.
+enum { WHOLE = 250000000 };
+
 struct file { u8 *bytes; usize size, variants, samples; };
 
 void *pages(usize size);

@@ -1,14 +1,10 @@
 // The public calls on whole files, against the plain C program and memcpy of the same bytes.
-//   whole headers                  the header check, 1,000,000 and 16,777,216 variants, each form
-//   whole files                    files of about 250 MB: check, rows, read, flip, write
-//   whole growth                   the same over 1, 2, 4 and 8 times the size
-//   whole make SAMPLES NAME        such a file written to disk, with what plink2 wants beside it
-//   whole disk NAME                that file read from disk and checked, and read, flipped and written back
+//   whole headers   the header check, 1,000,000 and 16,777,216 variants, each form
+//   whole files     files of about 250 MB: check, rows, read, flip, write
+//   whole growth    the same over 1, 2, 4 and 8 times the size
 #include "timed.h"
 #include "make.h"
 #include "measure.h"
-
-enum { WHOLE = 250000000 };
 
 static struct file file, twin;
 static u8 row[65536], other[65536], work_1[65536], work_2[65536], *copied, *set;
@@ -139,7 +135,7 @@ static void rows_both(void)
     if (sum_1 != sum_2 || sum_1 == 0 || memcmp(row, other, sizeof row)) fail("rows");
 }
 
-// Every variant of the first block's start, and some all over the file, read by both.
+// The first forty variants, and some all over the file, read by both.
 static void read_both(void)
 {
     for (usize k = 0; k < 60; k++) {
@@ -213,7 +209,7 @@ static void files(void)
         three("read of the last variant (MB of the header)", header, read_ours, read_plain, 0.5);
         flip_both();
         three("flip of a third of the variants", file.size, flip_ours, flip_plain, 8);
-        // after an odd number of rounds the two may differ by one flip: both are flipped as often
+        // both were flipped as often
         if (memcmp(file.bytes, twin.bytes, file.size)) fail("flip");
         writes();
         drop_file();
@@ -243,113 +239,12 @@ static void growth(void)
     }
 }
 
-static void put(int to, const u8 *p, usize size)
-{
-    while (size) {
-        i64 done = write(to, p, size);
-        if (done <= 0) {
-            dprintf(2, "cannot write\n");
-            exit(1);
-        }
-        p += done;
-        size -= done;
-    }
-}
-
-// The file, with the .pvar and .psam that plink2 wants, and the list of a third of the variants for --ref-allele.
-static void make(usize samples, const char *name)
-{
-    static char path[4096], text[1 << 20];
-    usize used;
-    struct bodies *b = make_bodies(samples, WHOLE);
-    file = make_file(b, bodies_variants(b), 0x41);
-    snprintf(path, sizeof path, "%s.pgen", name);
-    int to = creat(path, 0644);
-    put(to, file.bytes, file.size);
-    close(to);
-    snprintf(path, sizeof path, "%s.psam", name);
-    to = creat(path, 0644);
-    used = snprintf(text, sizeof text, "#IID\tSEX\n");
-    for (usize i = 0; i < samples; i++) used += snprintf(text + used, sizeof text - used, "s%lu\tNA\n", i);
-    put(to, (u8 *)text, used);
-    close(to);
-    snprintf(path, sizeof path, "%s.pvar", name);
-    to = creat(path, 0644);
-    snprintf(path, sizeof path, "%s.third", name);
-    int third = creat(path, 0644);
-    put(to, (const u8 *)"#CHROM\tPOS\tID\tREF\tALT\n", 22);
-    for (usize v = 0; v < file.variants;) {
-        used = 0;
-        for (; v < file.variants && used < sizeof text - 100; v++) used += snprintf(text + used, 100, "1\t%lu\tv%lu\tA\tC\n", v + 1, v);
-        put(to, (u8 *)text, used);
-    }
-    for (usize v = 0; v < file.variants;) {
-        used = 0;
-        for (; v < file.variants && used < sizeof text - 100; v += 3) used += snprintf(text + used, 100, "v%lu\tC\n", v);
-        put(third, (u8 *)text, used);
-    }
-    close(to);
-    close(third);
-}
-
-static void get(const char *path, u8 *p, usize size)
-{
-    int from = open(path, 0);
-    while (size) {
-        i64 done = read(from, p, size);
-        if (done <= 0) {
-            dprintf(2, "cannot read %s\n", path);
-            exit(1);
-        }
-        p += done;
-        size -= done;
-    }
-    close(from);
-}
-
-// What plink2 does from disk to disk, by the library: the least of three rounds each.
-static void disk(const char *name)
-{
-    static char path[4096], result[4096];
-    snprintf(path, sizeof path, "%s.pgen", name);
-    snprintf(result, sizeof result, "%s.flipped.pgen", name);
-    int from = open(path, 0);
-    file.size = lseek(from, 0, 2);
-    close(from);
-    file.bytes = pages(file.size);
-    double read_and_check = 1e99, whole_flip = 1e99;
-    for (int round = 0; round < 3; round++) {
-        double t = on_clock();
-        get(path, file.bytes, file.size);
-        check_ours(0);
-        t = on_clock() - t;
-        if (t < read_and_check) read_and_check = t;
-        if (check_1.refusal) fail("check of the file on disk");
-        file.variants = check_1.variants;
-        if (!set) {
-            set = pages(file.variants / 8 + 1);
-            for (usize v = 0; v < file.variants; v += 3) set[v / 8] |= 1 << v % 8;
-        }
-        t = on_clock();
-        get(path, file.bytes, file.size);
-        flip_ours(0);
-        int to = creat(result, 0644);
-        put(to, file.bytes, file.size);
-        close(to);
-        t = on_clock() - t;
-        if (t < whole_flip) whole_flip = t;
-        if (told_1.refusal) fail("flip of the file on disk");
-    }
-    printf("%.2f %.2f\n", read_and_check, whole_flip);
-}
-
 int main(int count, char **words)
 {
-    if (count == 2 && !strcmp(words[1], "headers")) headers();
-    else if (count == 2 && !strcmp(words[1], "files")) files();
-    else if (count == 2 && !strcmp(words[1], "growth")) growth();
-    else if (count == 4 && !strcmp(words[1], "make")) make(atol(words[2]), words[3]);
-    else if (count == 3 && !strcmp(words[1], "disk")) disk(words[2]);
+    if (count != 2) return 2;
+    if (!strcmp(words[1], "headers")) headers();
+    else if (!strcmp(words[1], "files")) files();
+    else if (!strcmp(words[1], "growth")) growth();
     else return 2;
     return 0;
 }

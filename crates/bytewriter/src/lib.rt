@@ -156,8 +156,8 @@ fn in_byte(array: Array) -> usize
     }
 }
 
-// Writes an array, and gives the place after it. 01, The header: "Each packed array ends at a byte boundary, and its unused bits are zero."
-pub fn put_array(array: Array, categories: &[u8], output: &mut [u8], at: usize) -> usize
+// Writes an array byte by byte, and gives the place after it.
+fn put_bytes(array: Array, categories: &[u8], output: &mut [u8], at: usize) -> usize
     requires { ⌜ Below 4 (now categories) × (at + length (array-bytes array (now categories)) ≤ length (now output)) ⌝ }
     ensures { λ r. ⌜ Wrote (now (output .entry)) at (array-bytes array (now (categories .entry))) r (now (output .exit)) ⌝ }
 {
@@ -170,4 +170,16 @@ pub fn put_array(array: Array, categories: &[u8], output: &mut [u8], at: usize) 
         i = i + samples;
     }
     place
+}
+
+// Writes an array, and gives the place after it. 01, The header: "Each packed array ends at a byte boundary, and its unused bits are zero." Each array
+// by a call of its own, so that the compiler makes a loop for each.
+pub fn put_array(array: Array, categories: &[u8], output: &mut [u8], at: usize) -> usize
+    requires { ⌜ Below 4 (now categories) × (at + length (array-bytes array (now categories)) ≤ length (now output)) ⌝ }
+    ensures { λ r. ⌜ Wrote (now (output .entry)) at (array-bytes array (now (categories .entry))) r (now (output .exit)) ⌝ }
+{
+    match array {
+        Array::Categories => put_bytes(Array::Categories, categories, output, at),
+        Array::Bits { higher } => put_bytes(Array::Bits { higher }, categories, output, at),
+    }
 }

@@ -1,84 +1,42 @@
--- `bytewriter::put_array` meets its contract: each turn of the loop writes the byte of the next samples.
+-- `bytewriter::put_array` meets its contract: by the array.
 -- Assumes nothing.
-use Rattle.bytewriter.proofs.ArrayLaws.{Inv, start, more-few, turn-room, turn-next, turn-done}
-use Rattle.bytewriter.specs.Arrays.{array-bytes}
-use lib.Seq.{sets}
-use lib.ListN.{length}
-use native.Mathlib.Omega.{arith}
-use Prim.Native.Nat.{_+_, _-_}
 use borrow.Author.Needs.{needs}
 use Rattle.bytewriter.proofs.put_array.Statement.{statement}
 use Rattle.bytewriter.proofs.put_array.Tie as tie
 
-abbrev Inv-loop : tie.InvT-loop
-Inv-loop array categories output₀ at samples place₀ i₀ output place i = Inv array categories (length output₀) (at + length (array-bytes array categories)) (sets output₀ at (array-bytes array categories)) output place i
+enum-told : tie.Need-enum-told
+enum-told c = search needs
 
-abbrev μ-loop : tie.MeasureT-loop
-μ-loop array categories output₀ at samples place₀ i₀ output place i = length categories - i
+put-bytes-requires : tie.Need-put-bytes-requires
+put-bytes-requires c κs = rw (c .before .enum-told .given .1) at (c .before .before .before .before .before .pre)
 
-in-byte-requires : tie.Need-in-byte-requires Inv-loop μ-loop
-in-byte-requires c κs = search needs
+enum-known-array : tie.Need-enum-known-array
+enum-known-array c = search needs
 
-loop-holds : tie.Need-loop-holds Inv-loop μ-loop
-loop-holds c =
-    let args = c .before .before .before .args in
-    start (args .array) (args .categories .now) (args .output .now) (args .at)
+put-bytes-requires-2 : tie.Need-put-bytes-requires-2
+put-bytes-requires-2 c κs = rw (c .before .before .array .given .1) at (c .before .before .before .before .before .before .pre)
 
-byte-of-requires : tie.Need-byte-of-requires Inv-loop μ-loop
-byte-of-requires c κs = search needs
+same-length : tie.Need-same-length
+same-length c = search needs
 
-slice-write-output : tie.Need-slice-write-output Inv-loop μ-loop
-slice-write-output c =
-    let loop = c .before .before .loop in
-    let loop-test = c .before .loop-test in
-    let pre = c .before .before .before .before .before .before .pre in
-    omega (arith, turn-room (loop .inv) (loop-test .taken), (loop .inv .keeps), (pre .1))
+returns : tie.Need-returns
+returns c = rw (c .before .before .before .before .enum-told .given .1) (c .before .before .put-bytes .ensures)
 
-add-place : tie.Need-add-place Inv-loop μ-loop
-add-place c =
-    let loop = c .before .before .loop in
-    let loop-test = c .before .loop-test in
-    let pre = c .before .before .before .before .before .before .pre in
-    let good = c .before .before .before .before .before .before .good in
-    omega (arith, turn-room (loop .inv) (loop-test .taken), (loop .inv .keeps), (pre .1), good)
+same-length-2 : tie.Need-same-length-2
+same-length-2 c = search needs
 
-add-i : tie.Need-add-i Inv-loop μ-loop
-add-i c =
-    let args = c .before .before .before .before .before .before .args in
-    let in-byte = c .before .before .before .in-byte in
-    let good = c .before .before .before .before .before .before .good in
-    let loop-test = c .before .loop-test in
-    omega (arith, more-few (args .array), (in-byte .ensures), good, (loop-test .taken))
-
-loop-less : tie.Need-loop-less Inv-loop μ-loop
-loop-less c = search needs
-
-loop-again : tie.Need-loop-again Inv-loop μ-loop
-loop-again c =
-    let loop = c .before .before .loop in
-    let loop-test = c .before .loop-test in
-    let in-byte = c .before .before .before .in-byte in
-    turn-next (loop .inv) (loop-test .taken) (c .byte-of .result) (in-byte .result) (c .byte-of .ensures) (in-byte .ensures)
-
-same-length : tie.Need-same-length Inv-loop μ-loop
-same-length c = (c .before .loop .inv .keeps)
-
-returns : tie.Need-returns Inv-loop μ-loop
-returns c = let h = turn-done (c .before .loop .inv) (c .loop-test .left) in record { place = h .1; same = h .0 }
+returns-2 : tie.Need-returns-2
+returns-2 c = rw (c .before .before .before .before .before .array .given .1) (c .before .before .put-bytes2 .ensures)
 
 pub put-array-spec : {M : Type 1} → statement M
 put-array-spec =
     tie.close
     (tie.spec
-    Inv-loop
-    μ-loop
-    in-byte-requires
-    loop-holds
-    byte-of-requires
-    slice-write-output
-    add-place
-    add-i
-    loop-less
-    loop-again
+    enum-told
+    put-bytes-requires
+    enum-known-array
+    put-bytes-requires-2
     same-length
-    returns)
+    returns
+    same-length-2
+    returns-2)
