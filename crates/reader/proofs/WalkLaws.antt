@@ -15,6 +15,7 @@ use Rattle.format.specs.Body.{Body}
 use Rattle.format.specs.Variant.{file-variant}
 use Rattle.format.specs.Layout.{most-variants, sum, header-end, Layout, fixed-of, record-start}
 use Rattle.format.specs.Header.{read-layout}
+use Rattle.format.specs.Reply.{emptied}
 use Rattle.format.specs.File.{read-all, type-of}
 use Rattle.format.proofs.OffsetsLaws.{from-1-to-positive}
 use Rattle.format.proofs.AnchorLaws.{stands-at}
@@ -30,7 +31,7 @@ use Rattle.places.specs.Located.{place-in}
 use Rattle.record.specs.declared.RecordReply.{RecordReply}
 use Rattle.record.specs.declared.RecordReply.the-variants.{Accepted, Refused}
 use Rattle.record.specs.Recorded.{Outcome, done, replied, recorded}
-use Rattle.reader.specs.Rows.{cleared, record-reply, all-checked}
+use Rattle.reader.specs.Rows.{record-reply, all-checked}
 use Rattle.reader.proofs.Replies.{row-of, reply-of, refusal}
 use Rattle.reader.proofs.Cut.{body-is-bytes, recorded-is, its-place}
 
@@ -55,9 +56,9 @@ rest-after true N row = refl
 rest-after false N row = drop-at (replicate N 0) (drop N row) N (length-replicate N 0)
 
 module _ (bs : List ℕ) (y : Bytes bs) (l : Layout) (a : read-layout 65536 bs ≡ ok l []) (f : Fields) (e : f ≡ fields-of (fixed-at bs)) (row₀ : List ℕ) where
-  -- a row that is cleared
-  cleared-is : (row : List ℕ) → cleared (f .samples) row ≡ cleared (l .samples) row
-  cleared-is row = ap (λ (n : ℕ). cleared n row) (samples-are bs y l a f e)
+  -- a row that is emptied
+  emptied-is : (row : List ℕ) → emptied (f .samples) row ≡ emptied (l .samples) row
+  emptied-is row = ap (λ (n : ℕ). emptied n row) (samples-are bs y l a f e)
 
   -- the first record leans on nothing
   pub starts : (start : ℕ) → start ≡ header-end 65536 (fixed f) → Walk l row₀ row₀ 0 start
@@ -74,12 +75,12 @@ module _ (bs : List ℕ) (y : Bytes bs) (l : Layout) (a : read-layout 65536 bs �
       }
 
   -- nothing is left
-  pub ends : (row last : List ℕ) (v start : ℕ) → f .variants ≤ v → Walk l row₀ row v start → last ≡ cleared (f .samples) row → done Accepted last ≡ all-checked l row₀
+  pub ends : (row last : List ℕ) (v start : ℕ) → f .variants ≤ v → Walk l row₀ row v start → last ≡ emptied (f .samples) row → done Accepted last ≡ all-checked l row₀
   ends row last v start m w g =
       let all : v ≡ length (l .bodies) = omega (arith, w .reached, count-is bs y l a f e) in
       let passed : outcome (read-all 65536 l) ≡ ok tt []
       = sym (w .left-is) ∙ ap (λ (z : ℕ). left-to-check 65536 l z (take (l .samples) row)) all ∙ none-left 65536 l (take (l .samples) row) (obeys bs y l a) in
-      ap (done Accepted) (g ∙ cleared-is row)
+      ap (done Accepted) (g ∙ emptied-is row)
       ∙ ap₂ (λ (r : RecordReply) (rest : List ℕ). done r (replicate (l .samples) 0 ++ rest))
       (sym (sym (reply-outcome (read-all 65536 l)) ∙ ap record-reply passed)) (w .rest-is)
 
@@ -122,8 +123,8 @@ module _ (bs : List ℕ) (y : Bytes bs) (l : Layout) (a : read-layout 65536 bs �
                 rest-is = ap (λ (z : List ℕ). drop (l .samples) z) (ap row-of t) ∙ carried .1 ∙ w .rest-is;
               }
 
-      -- the row is cleared then
-      pub stops : (number place : ℕ) (last : List ℕ) → r ≡ Refused number place → last ≡ cleared (f .samples) row₁
+      -- the row is emptied then
+      pub stops : (number place : ℕ) (last : List ℕ) → r ≡ Refused number place → last ≡ emptied (f .samples) row₁
           → done (Refused number place) last ≡ all-checked l row₀
       stops number place last q g = go (record-over 65536 l v (take (l .samples) row)) refl
         where
@@ -136,5 +137,5 @@ module _ (bs : List ℕ) (y : Bytes bs) (l : Layout) (a : read-layout 65536 bs �
               let all : outcome (read-all 65536 l) ≡ refuse other there
               = sym (w .left-is) ∙ turn ∙ ap (then-check 65536 l v (take (l .samples) row)) n in
               ap₂ done (sym q ∙ ap reply-of t ∙ sym (sym (reply-outcome (read-all 65536 l)) ∙ ap record-reply all))
-              (g ∙ cleared-is row₁ ∙ ap (λ (rest : List ℕ). replicate (l .samples) 0 ++ rest)
+              (g ∙ emptied-is row₁ ∙ ap (λ (rest : List ℕ). replicate (l .samples) 0 ++ rest)
               (ap (λ (z : List ℕ). drop (l .samples) z) (ap row-of t) ∙ rest-after (leans (type-of l (file-variant v))) (l .samples) row ∙ w .rest-is))
