@@ -11,7 +11,7 @@ use lib.Seq.{sets, drop-cons, drop-drop, getD-drop}
 use lib.Dec.{eqb}
 use borrow.Author.Tests.{eq-eqb, ne-eqb}
 use Rattle.format.specs.Base.{pick, Below}
-use Rattle.format.specs.Packed.{Bits, limit, more, byte-of, packed-after, packed}
+use Rattle.format.specs.Packed.{limit, more, byte-of, packed-after, packed}
 use Rattle.format.specs.Track.{bit-number}
 use Rattle.format.proofs.PackedLaws.{limit-positive}
 use Rattle.bytewriter.specs.Arrays.{width, numbers, array-bytes, byte-at}

@@ -6,7 +6,6 @@ use native.Mathlib.Omega.{arith}
 use mathlib.Core.List.{List}
 use lib.ListN.{length, getD}
 use Rattle.cursor.specs.Steps.{varint-at}
-use Rattle.cursor.specs.declared.Cursor.{Cursor}
 use Rattle.cursor.specs.declared.VarintStep.the-variants.{Value}
 use Rattle.cursor.proofs.ByteLaws.{ByteRead}
 use Rattle.cursor.proofs.WithinLaws.{more-good, rest-good}

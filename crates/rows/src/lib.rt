@@ -4,7 +4,6 @@ ghost use mathlib.Core.Path.{_≡_};
 ghost use mathlib.Core.Bool.{true, false};
 ghost use Prim.Native.Nat.{_≤_, _<_};
 ghost use Rattle.format.specs.Track.{leans};
-ghost use Rattle.format.specs.Layout.{type-allowed};
 ghost use Rattle.format.specs.Layout.{plain-mode};
 ghost use Rattle.format.specs.Header.{type-place};
 ghost use Rattle.blocks.specs.Parts.{fixed};
@@ -16,7 +15,6 @@ use blocks::header_end;
 use columns::type_place;
 use extents::kind_of;
 use extents::size_of;
-use format::BlockVariant;
 use format::FileVariant;
 use format::HeaderReply;
 use format::Reply;
@@ -25,6 +23,7 @@ use packed::copy;
 use places::Place;
 use record::RecordReply;
 use record::read_body;
+use types::type_allowed;
 use types::type_leans;
 
 // The next variant, where its record starts, and how the last record that leans on none was refused: 0 and 0 if it was accepted.
@@ -84,22 +83,6 @@ pub fn start_rows(file: &[u8], work: &[u8]) -> RowsReply
     }
 }
 
-// 01, The header: "A type is allowed if its kind is not 5, all its other bits are 0, and its kind is not 2 or 3 at the first variant of a block."
-fn is_allowed(kind: u8, i: BlockVariant) -> bool
-    ensures { λ r. ⌜ r ≡ type-allowed i kind ⌝ }
-{
-    if 7 < kind {
-        return false;
-    }
-    if kind == 5 {
-        return false;
-    }
-    if i.0 == 0 {
-        return !type_leans(kind);
-    }
-    true
-}
-
 // Where the next record stands, or why none is read.
 enum Found {
     At(Place),
@@ -143,7 +126,7 @@ fn next_record(rows: Rows, file: &[u8], output: usize, work: usize) -> Found
         return none(11, 0);
     }
     let kind = kind_of(file, f, v);
-    if !is_allowed(kind, in_block(v)) {
+    if !type_allowed(in_block(v), kind) {
         return none(8, place_of_type(f, v));
     }
     let size = size_of(file, f, v);

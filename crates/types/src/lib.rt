@@ -30,7 +30,7 @@ pub fn type_at(file: &[u8], at: usize, i: BlockVariant, half: bool) -> u8
 }
 
 // 01: "A type is allowed if its kind is not 5, all its other bits are 0, and its kind is not 2 or 3 at the first variant of a block."
-fn type_allowed(i: BlockVariant, kind: u8) -> bool
+pub fn type_allowed(i: BlockVariant, kind: u8) -> bool
     ensures { λ r. ⌜ r ≡ type-allowed i kind ⌝ }
 {
     if 8 <= kind {
