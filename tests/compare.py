@@ -1,13 +1,14 @@
 """Compares the built programs with the independent program.
 
-    python3 compare.py                 the committed cases, the real files, the listing, document 01's examples, fresh cases from a new seed
-    python3 compare.py --seed S        the same with the fresh cases of seed S, to run a failure again
+    python3 compare.py                 the committed cases, the real files, the listing, document 01's examples, fresh cases from new seeds for a minute
+    python3 compare.py --seed S        the same with the fresh cases of seed S alone, to run a failure again
     python3 compare.py --minutes N     fresh cases for about N minutes, seed after seed
 
-Prints the seeds it used, and as its last line 'N passed, M failed'.
+Prints the seeds it used (a failure names its own), and as its last line 'N passed, M failed'.
 """
 
 import argparse
+import random
 import subprocess
 import sys
 import time
@@ -15,7 +16,8 @@ from pathlib import Path
 
 import pgen_reference as reference
 from pgen_cases import READ, Case
-from probe_cases import all_cases, input_bytes, line_of, reply_to
+from pgen_limit_cases import limit_cases
+from probe_cases import all_cases, fresh_cases, input_bytes, line_of, reply_to
 from program_laws import check_examples, check_flips
 
 HERE = Path(__file__).resolve().parent
@@ -70,16 +72,28 @@ def committed(tally):
     tally.same("crates/probe/stdout", (folder / "stdout").read_bytes(), want)
 
 
+def real_file(tally, path):
+    """A file made by plink2 reads as plink2 itself exported it."""
+    file = path.read_bytes()
+    samples = int.from_bytes(file[7:11], "little")
+    rows = path.with_suffix(".categories").read_text().split()
+    data = b"".join(input_bytes(Case(READ, v, 0, file, b"", samples, samples)) for v in range(len(rows)))
+    want = "".join(f"0 0 o {bytes(map(int, row)).hex()} w {bytes(samples).hex()}\n" for row in rows).encode()
+    tally.same(f"real/{path.name}", run("probe", data), want, len(rows))
+    tally.same(f"listing of real/{path.name}", run("pgenlist", file), reference.listing(file).encode())
+
+
+def real_refusal(tally, path):
+    """A file made by plink2 that document 01 refuses, with the number and place worked out by hand."""
+    refusal, file = path.with_suffix(".refused").read_text().strip(), path.read_bytes()
+    for what in (f"refused {refusal}\n", reference.listing(file)):
+        tally.same(f"listing of real/{path.name}", run("pgenlist", file), what.encode())
+
+
 def real_files(tally):
-    """Files made by plink2 read as plink2 itself exported them."""
+    """All files made by plink2."""
     for path in sorted((HERE / "real").glob("*.pgen")):
-        file = path.read_bytes()
-        samples = reference.header_check(file)[4]
-        rows = path.with_suffix(".categories").read_text().split()
-        data = b"".join(input_bytes(Case(READ, v, 0, file, b"", samples, samples)) for v in range(len(rows)))
-        want = "".join(f"0 0 o {bytes(map(int, row)).hex()} w {bytes(samples).hex()}\n" for row in rows).encode()
-        tally.same(f"real/{path.name}", run("probe", data), want, len(rows))
-        tally.same(f"listing of real/{path.name}", run("pgenlist", file), reference.listing(file).encode())
+        (real_refusal if path.with_suffix(".refused").exists() else real_file)(tally, path)
 
 
 def listings(tally):
@@ -90,10 +104,16 @@ def listings(tally):
         tally.same(f"listing of {len(data)} bytes", run("pgenlist", data), reference.listing(data).encode())
 
 
+def fresh_limits(tally, seed):
+    """Document 01's "Tested only" cases, with other files for each seed: they are large, so a run makes them once."""
+    cases = list(limit_cases(random.Random(seed)))
+    data, want = joined(cases)
+    tally.same(f"tested only, seed {seed}", run("probe", data), want, len(cases))
+
+
 def fresh(tally, seed):
     """Fresh cases."""
-    print(f"fresh cases, seed {seed}")
-    data, want = joined(all_cases(seed, FRESH_CASES))
+    data, want = joined(fresh_cases(seed, FRESH_CASES))
     tally.same(f"fresh cases of seed {seed}", run("probe", data), want, FRESH_CASES)
     check_flips(tally, run, seed)
 
@@ -120,13 +140,14 @@ def main():
     real_files(tally)
     listings(tally)
     check_examples(tally, run)
-    if words.seed is not None:
-        fresh(tally, words.seed)
-    else:
-        seed, end = time.time_ns() % 10**9, time.monotonic() + 60 * words.minutes
-        while time.monotonic() < end:
-            fresh(tally, seed)
-            seed += 1
+    end = time.monotonic() + 60 * words.minutes
+    first = seed = time.time_ns() % 10**9 if words.seed is None else words.seed
+    print(f"fresh cases from seed {first} on", flush=True)
+    fresh_limits(tally, first)
+    while seed == first or (words.seed is None and time.monotonic() < end):
+        fresh(tally, seed)
+        seed += 1
+    print(f"fresh cases of {seed - first} seeds, {first} to {seed - 1}")
     print(f"{tally.passed} passed, {tally.failed} failed")
     return 1 if tally.failed else 0
 

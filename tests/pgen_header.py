@@ -123,6 +123,8 @@ class Header:
 
     def bad_type_places(self):
         """Bytes that hold a type that is not allowed."""
+        if self.mode == PLAIN_MODE:
+            return []
         places = []
         for variant, its_type in enumerate(self.types):
             leaning_first = variant % BLOCK_SIZE == 0 and its_type in LEANING_KINDS

@@ -105,8 +105,7 @@ def join_block(parts, form, first, lengths, place, marks):
             marks.unused.append((place + len(data) - 1, 4))
     for within in range(len(types)):
         marks.types.append(place + (within if form & 4 else within // 2))
-    for length in lengths[first:after]:
-        data += length.to_bytes(form % 4 + 1, "little")
+    data += b"".join(length.to_bytes(form % 4 + 1, "little") for length in lengths[first:after])
     if form >> 6 == 3:
         data += join_flags(parts.flags[first:after], place + len(data), marks)
     return data

@@ -17,6 +17,7 @@ import pgen_reference as reference
 from pgen_cases import (FLIP, HEADER, LOOKUP, READ, VIEW, WHOLE_FILE, WRITE, random_case, sweep)
 from pgen_header import Refused, read_header
 from pgen_limit_cases import limit_cases
+from scale_files import edge_cases
 
 OUTPUT_FILL = b"\xa5"
 WORK_FILL = b"\x5a"
@@ -109,6 +110,12 @@ def all_cases(seed, count):
     swept = sweep(rng)
     endless = (random_case(rng) for _ in iter(int, 1))
     return islice(chain(first, swept, endless), max(count, len(first)))
+
+
+def fresh_cases(seed, count):
+    """Every fault and every edge with every call, and then random cases: a seed's cases without those named "Tested only"."""
+    rng = random.Random(f"fresh {seed}")
+    return islice(chain(sweep(rng), edge_cases(rng), (random_case(rng) for _ in iter(int, 1))), count)
 
 
 class Summary:

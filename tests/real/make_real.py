@@ -1,27 +1,46 @@
 """Makes the files of this folder again, with the real program plink2.
 
-    python3 make_real.py
+    python3 make_real.py [FOLDER]
 
 For each set it writes made-up genotypes as a VCF file, has plink2 turn them into a PGEN file and
 export them in its own words, and keeps NAME.pgen and NAME.categories (a line of digits for each
-variant: 0 homozygous reference, 1 heterozygous, 2 double alternate, 3 missing). It needs plink2 on
-the PATH; the tests need only what it made.
+variant: 0 homozygous reference, 1 heterozygous, 2 double alternate, 3 missing). Of a file that
+document 01 refuses it keeps NAME.refused instead: the number and the place, worked out by hand. It
+needs plink2 on the PATH; the tests need only what it made.
 """
 
 import random
 import subprocess
+import sys
 import tempfile
 from pathlib import Path
 
 HERE = Path(__file__).resolve().parent
 CALLS = ["0/0", "0/1", "1/1", "./."]
-# name, samples, variants, further words for --make-pgen
+# name, samples, variants, further words for --make-pgen, what else is done
 SETS = [
-    ("five", 5, 12, []),
-    ("herd", 90, 60, []),
-    ("two_byte_numbers", 300, 80, []),
-    ("long_lists", 2000, 24, []),
-    ("plain", 37, 20, ["format=2"]),
+    ("five", 5, 12, [], ""),
+    ("herd", 90, 60, [], ""),
+    ("two_byte_numbers", 300, 80, [], ""),
+    ("long_lists", 2000, 24, [], ""),
+    ("plain", 37, 20, ["format=2"], ""),
+    ("n255", 255, 16, [], ""),
+    ("n256_plain", 256, 16, ["format=2"], ""),
+    ("n257", 257, 16, [], ""),
+    ("flags", 45, 40, [], "some provisional"),
+    ("from_bed", 60, 32, [], "through bed"),
+    ("ref_turned", 70, 40, [], "every third turned"),
+]
+SPARSE = {3: "0/1", -1: "./."}
+PHASED = {i: call for i, call in enumerate("0|1 1|0 1|0 0|1 0|1 1|0 0|1 0|1".split())}
+# name, samples, calls that are not 0/0, other alleles, words for --vcf, refusal and place by document 01
+REFUSED = [
+    ("n256_list", 256, SPARSE, "C", [], "17 24"),
+    ("n65536_list", 65536, SPARSE, "C", [], "17 26"),
+    ("n65537", 65537, SPARSE, "C", [], "4 7"),
+    ("phased", 16, PHASED, "C", [], "8 20"),
+    ("multiallelic", 16, {1: "0/1", 2: "1/2", 3: "2/2"}, "C,G", [], "8 20"),
+    ("dosage", 16, {1: "0/1:0.9", 2: "1/1:1.8"}, "C", ["dosage=DS"], "8 20"),
 ]
 
 
@@ -54,41 +73,76 @@ def rows_of(rng, samples, variants):
     return rows
 
 
-def vcf_of(rows, samples):
-    """The rows as a VCF file's text."""
-    lines = ["##fileformat=VCFv4.2", "##contig=<ID=1,length=1000000>", '##FORMAT=<ID=GT,Number=1,Type=String,Description="call">']
+def vcf_of(rows, samples, alts="C", info=lambda variant: ".", form="GT"):
+    """Rows of calls as a VCF file's text; the other alleles are the same for all variants, or a list."""
+    lines = ["##fileformat=VCFv4.2", '##INFO=<ID=PR,Number=0,Type=Flag,Description="provisional reference allele">', "##contig=<ID=1,length=1000000>",
+             '##FORMAT=<ID=GT,Number=1,Type=String,Description="call">', '##FORMAT=<ID=DS,Number=A,Type=Float,Description="dosage">']
     lines.append("\t".join(["#CHROM", "POS", "ID", "REF", "ALT", "QUAL", "FILTER", "INFO", "FORMAT"] + [f"s{i}" for i in range(samples)]))
     for v, row in enumerate(rows):
-        lines.append("\t".join(["1", str(100 + v), f"v{v}", "A", "C", ".", ".", ".", "GT"] + [CALLS[c] for c in row]))
+        others = alts if isinstance(alts, str) else alts[v]
+        lines.append("\t".join(["1", str(100 + v), f"v{v}", "A", others, ".", ".", info(v), form] + row))
     return "\n".join(lines) + "\n"
 
 
-def exported(path):
-    """The categories that plink2 exported, a line of digits for each variant."""
+def calls_of(rows):
+    """Categories as calls."""
+    return [[CALLS[c] for c in row] for row in rows]
+
+
+def exported(traw, pvar):
+    """The categories that plink2 exported, a line of digits for each variant: how often each sample has the alternate allele."""
+    alternate = dict(line.split("\t")[2:5:2] for line in pvar.read_text().splitlines() if not line.startswith("#"))
     lines = []
-    for line in path.read_text().splitlines()[1:]:
+    for line in traw.read_text().splitlines()[1:]:
         fields = line.split("\t")
-        counted = fields[4]
-        digits = ""
-        for field in fields[6:]:
-            digits += "3" if field == "NA" else str(int(field) if counted == "C" else 2 - int(field))
-        lines.append(digits)
+        name, counted = fields[1], fields[4]
+        as_it_is = counted == alternate[name]
+        lines.append("".join("3" if field == "NA" else field if as_it_is else str(2 - int(field)) for field in fields[6:]))
     return "\n".join(lines) + "\n"
 
 
-def make(name, samples, variants, words):
+def plink2(*words):
+    """plink2 with one thread; it must succeed."""
+    subprocess.run(["plink2", "--threads", "1", "--memory", "700", *map(str, words)], check=True, stdout=subprocess.DEVNULL)
+
+
+def make(folder, name, samples, variants, words, way):
     """One set."""
-    rng = random.Random(name)
-    with tempfile.TemporaryDirectory() as folder:
-        at = Path(folder)
-        (at / "in.vcf").write_text(vcf_of(rows_of(rng, samples, variants), samples))
-        run = ["plink2", "--threads", "1", "--out", str(at / "made")]
-        subprocess.run(run + ["--vcf", str(at / "in.vcf"), "--make-pgen", *words], check=True, stdout=subprocess.DEVNULL)
-        subprocess.run(run + ["--pfile", str(at / "made"), "--export", "Av"], check=True, stdout=subprocess.DEVNULL)
-        (HERE / f"{name}.pgen").write_bytes((at / "made.pgen").read_bytes())
-        (HERE / f"{name}.categories").write_text(exported(at / "made.traw"))
+    rows = calls_of(rows_of(random.Random(name), samples, variants))
+    with tempfile.TemporaryDirectory() as scratch:
+        at = Path(scratch)
+        provisional = (lambda v: ["PR", ".", "."][v % 3]) if way == "some provisional" else (lambda v: ".")
+        (at / "in.vcf").write_text(vcf_of(rows, samples, info=provisional))
+        source = ["--vcf", at / "in.vcf"]
+        if way == "through bed":
+            plink2(*source, "--make-bed", "--out", at / "bed")
+            source = ["--bfile", at / "bed"]
+        if way == "every third turned":
+            (at / "turned").write_text("".join(f"v{v}\tC\n" for v in range(0, variants, 3)))
+            source += ["--ref-allele", "force", at / "turned", "2", "1"]
+        plink2(*source, "--make-pgen", *words, "--out", at / "made")
+        plink2("--pfile", at / "made", "--export", "Av", "--out", at / "made")
+        (folder / f"{name}.pgen").write_bytes((at / "made.pgen").read_bytes())
+        (folder / f"{name}.categories").write_text(exported(at / "made.traw", at / "made.pvar"))
+
+
+def make_refused(folder, name, samples, calls, alts, words, refusal):
+    """One file of one variant that document 01 refuses."""
+    form = "GT:DS" if words else "GT"
+    row = ["0/0:0.1" if words else "0/0"] * samples
+    for sample, call in calls.items():
+        row[sample] = call
+    with tempfile.TemporaryDirectory() as scratch:
+        at = Path(scratch)
+        (at / "in.vcf").write_text(vcf_of([row], samples, alts, form=form))
+        plink2("--vcf", at / "in.vcf", *words, "--make-pgen", "--out", at / "made")
+        (folder / f"{name}.pgen").write_bytes((at / "made.pgen").read_bytes())
+        (folder / f"{name}.refused").write_text(refusal + "\n")
 
 
 if __name__ == "__main__":
+    where = Path(sys.argv[1]) if len(sys.argv) > 1 else HERE
     for each in SETS:
-        make(*each)
+        make(where, *each)
+    for each in REFUSED:
+        make_refused(where, *each)

@@ -1,6 +1,6 @@
 -- What each return of the code says, from the tests that led to it.
 -- Assumes nothing.
-use mathlib.Core.Path.{_≡_, _∙_, sym}
+use mathlib.Core.Path.{_≡_, refl, _∙_, sym}
 use Prim.Native.Nat.{ℕ, suc, _+_, _*_, _/_, _%_, _≤_, _<_}
 use native.Mathlib.Nat.{mul-le-mul, zero-div, zero-mod}
 use native.Mathlib.Omega.{arith}
@@ -15,7 +15,7 @@ use Rattle.format.specs.Packed.{four, eight, more, packed-size}
 use Rattle.format.specs.Variant.{block-of, in-block}
 use Rattle.format.specs.Layout.{Fixed, plain-size}
 use Rattle.format.specs.Header.{type-place}
-use Rattle.format.proofs.ByIndex.{number-at, digit-at, type-at, length-at}
+use Rattle.format.proofs.ByIndex.{number-at, digit-at, lengths-place, type-at, length-at}
 use Rattle.numbers.proofs.Sums.{one-byte, two-bytes, three-bytes, four-bytes}
 use Rattle.blocks.specs.declared.Blocks.{Blocks}
 use Rattle.blocks.specs.declared.Fields.{Fields}
@@ -55,21 +55,28 @@ module _ (b : Blocks) (f : Fixed) (e : b ≡ blocks-of f) (bs : List ℕ) (v : F
   unfolding digit-at type-at type-place
   type-is kind k = k ∙ rw (getD-drop, p, q, place-is b f e (block-of 65536 v), bits-are b f e)
 
-  pub length-is : (m n size r : ℕ) → m ≡ f .variants → n ≡ count-in m block → size ≡ packed-size (pick (b .half) four eight) n
-      → r ≡ number-at (b .width) (drop (b .at + block * b .full + size + b .width * i .0) bs) → r ≡ length-at 65536 f bs v
-  unfolding length-at
-  length-is m n size r d c s w = w ∙ rw (s, c, lengths-place-is m b f d e block, p, q, width-is b f e)
-
 -- past the end
 pub type-past : (f : Fixed) (bs : List ℕ) (v : FileVariant) (place : ℕ) → place ≡ type-place 65536 f v → length bs ≤ place → 0 ≡ type-at 65536 f bs v
 unfolding type-at
 type-past f bs v place d l = sym (rw (List·getD-eq-default bs 0 {n = type-place 65536 f v} (omega arith), zero-div, zero-mod))
 
--- where its length stands is no large number
-pub length-small : (b : Blocks) (block n size i : ℕ) → BlocksSmall b → block ≤ 256 → n ≤ 65536 → size ≡ packed-size (pick (b .half) four eight) n → i ≤ 65536
-    → b .at + block * b .full + size + b .width * i ≤ 134217728
-length-small b block n size i h k l s j =
-    omega (arith, h .at-most, few block (b .full) k (h .full-most), types-small n (b .half), mul-le-mul {n₁ = b .width} {m₁ = i} {n₂ = 4} {m₂ = 65536} (h .width-most) j)
+-- where its block's lengths start, which is no large number
+pub lengths-start : (f : Fields) (b : Blocks) (v : FileVariant) (block n size : ℕ) → b ≡ blocks-of (fixed f) → BlocksSmall b → f .variants ≤ 16777216 → v .0 < f .variants
+    → block ≡ block-of 65536 v → n ≡ count-in (f .variants) block → n ≤ 65536 → size ≡ packed-size (pick (b .half) four eight) n
+    → (b .at + block * b .full + size ≡ lengths-place 65536 (fixed f) (block-of 65536 v)) × (b .at + block * b .full + size ≤ 100730892)
+lengths-start f b v block n size e h l m p c k s = (
+  rw (s, c, lengths-place-is (f .variants) b (fixed f) refl e block, p) refl,
+  omega (arith, h .at-most, few block (b .full) (omega (arith, p)) (h .full-most), s, types-small n (b .half)),
+)
+
+pub length-small : (b : Blocks) (place i : ℕ) → BlocksSmall b → place ≤ 100730892 → i ≤ 65536 → place + b .width * i ≤ 134217728
+length-small b place i h l j = omega (arith, mul-le-mul {n₁ = b .width} {m₁ = i} {n₂ = 4} {m₂ = 65536} (h .width-most) j)
+
+pub length-is : (f : Fields) (b : Blocks) (bs : List ℕ) (v : FileVariant) (place : ℕ) (i : BlockVariant) (r : ℕ) → b ≡ blocks-of (fixed f)
+    → place ≡ lengths-place 65536 (fixed f) (block-of 65536 v) → i ≡ in-block 65536 v → r ≡ number-at (b .width) (drop (place + b .width * i .0) bs)
+    → r ≡ length-at 65536 (fixed f) bs v
+unfolding length-at
+length-is f b bs v place i r e p q w = w ∙ rw (p, q, width-is b (fixed f) e)
 
 -- ---- in both modes
 

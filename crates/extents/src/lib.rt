@@ -3,8 +3,9 @@ ghost use mathlib.Core.Path.{_≡_};
 ghost use mathlib.Core.Bool.{false};
 ghost use Prim.Native.Nat.{_≤_, _<_};
 ghost use lib.ListN.{drop, getD};
+ghost use Rattle.format.specs.Variant.{block-of};
 ghost use Rattle.format.specs.Layout.{plain-mode};
-ghost use Rattle.format.proofs.ByIndex.{number-at, type-at, length-at};
+ghost use Rattle.format.proofs.ByIndex.{number-at, lengths-place, type-at, length-at};
 ghost use Rattle.blocks.specs.Parts.{fixed};
 ghost use Rattle.extents.specs.Extent.{kind-at, size-at};
 use blocks::Fields;
@@ -64,9 +65,19 @@ pub fn type_of(file: &[u8], f: Fields, v: FileVariant) -> u8
 {
     let b = blocks_of(f);
     if type_place(b, v) < file.len() {
-        return type_at(file, b.at + block_of(v) * b.full, in_block(v).0, b.half);
+        return type_at(file, b.at + block_of(v) * b.full, in_block(v), b.half);
     }
     0
+}
+
+// Where the lengths of a variant's block start, in mode 0x10.
+pub fn lengths_place(f: Fields, v: FileVariant) -> usize
+    requires { ⌜ (f .variants ≤ 16777216) × (v .0 < f .variants) × (plain-mode (fixed f) ≡ false) ⌝ }
+    ensures { λ r. ⌜ (r ≡ lengths-place 65536 (fixed f) (block-of 65536 v)) × (r ≤ 100730892) ⌝ }
+{
+    let b = blocks_of(f);
+    let block = block_of(v);
+    b.at + block * b.full + types_size(count_in(f.variants, block), b.half)
 }
 
 // The length of a variant's record, in mode 0x10.
@@ -75,10 +86,9 @@ fn length_of(file: &[u8], f: Fields, v: FileVariant) -> usize
     ensures { λ r. ⌜ r ≡ length-at 65536 (fixed f) (now (file .entry)) v ⌝ }
 {
     let b = blocks_of(f);
-    let block = block_of(v);
+    let place = lengths_place(f, v);
     let i = in_block(v);
-    let lengths = b.at + block * b.full + types_size(count_in(f.variants, block), b.half);
-    number_from(file, lengths + b.width * i.0, b.width)
+    number_from(file, place + b.width * i.0, b.width)
 }
 
 // 01, The header: "Mode 0x02: ... Every record has type 0 and ceil(N/4) bytes."

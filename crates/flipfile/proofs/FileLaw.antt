@@ -3,7 +3,6 @@
 use mathlib.Core.Path.{_≡_, refl, sym, ap, ap₂, _∙_}
 use Prim.Native.Nat.{ℕ, zero, _+_, _≤_, _<_}
 use native.Mathlib.Nat.{add-zero, zero-add}
-use native.Mathlib.Omega.{arith}
 use mathlib.Core.Bool.{Bool, true, false}
 use mathlib.Core.List.{List, [], _++_, map, append-assoc}
 use lib.ListN.{length, length-map, length-append}
@@ -11,16 +10,13 @@ use Rattle.format.specs.declared.FileVariant.{FileVariant}
 use Rattle.format.specs.Base.{pick, Bytes}
 use Rattle.format.specs.Body.{Body, body-type, body-bytes}
 use Rattle.format.specs.Variant.{file-variant}
-use Rattle.format.specs.Layout.{Fixed, fixed-bytes, header-end, most-samples, most-variants, plain-mode, Arrays, arrays-bytes, Layout, fixed-of, body-lengths, arrays-of, joined, in-parts, layout-bytes}
+use Rattle.format.specs.Layout.{Fixed, fixed-bytes, header-end, most-samples, plain-mode, Arrays, arrays-bytes, Layout, fixed-of, body-lengths, arrays-of, joined, in-parts, layout-bytes}
 use Rattle.format.specs.File.{File, layout-of-file, file-bytes, Obeys, flip-bodies, flip-file, flip-bytes}
 use Rattle.format.proofs.OffsetsLaws.{offsets-fit, from-1-to-most}
 use Rattle.format.proofs.ArraysLaws.{fixed-length, arrays-length}
 use Rattle.format.proofs.PlaceLaws.{known}
-use Rattle.format.proofs.RefusalsByIndex.{fixed-at, fixed-at-layout}
 use Rattle.format.proofs.FileLaws.{file-exactly}
 use Rattle.format.proofs.FlipLaws.{SameLayout, flip-layout, flip-of-file}
-use Rattle.blocks.specs.declared.Fields.{Fields}
-use Rattle.blocks.specs.Parts.{fixed, fields-of}
 use Rattle.extents.specs.Extent.{kind-at, size-at}
 use Rattle.extents.proofs.FoundLaws.{kinds-found, sizes-found}
 use Rattle.flipfile.specs.Passes.{bodies-flipped, types-flipped, all-bodies, all-types, types-after, passes}
@@ -102,37 +98,10 @@ module _ (K : ℕ) (member : FileVariant → Bool) (g : File) (p : zero < K) (h 
   unfolding file-bytes layout-bytes
   in-place-law = ap (types-after K f member) bodies-done ∙ types-done ∙ new-bytes
 
-module _ (K : ℕ) (bs : List ℕ) (p : zero < K) (y : Bytes bs) (w : Accepted K bs) where
-  abbrev stored : Fixed
-  stored = fixed-of (layout-of-file (w .0))
-
-  obeys : Obeys K (w .0)
-  obeys = file-exactly K bs (w .0) p y .0 (w .1) .0
-
-  written : bs ≡ file-bytes K (w .0)
-  written = file-exactly K bs (w .0) p y .0 (w .1) .1
-
-  -- DEMAND 3, in place: of an accepted file the passes leave its flip
-  pub in-place-is-flip : (member : FileVariant → Bool) → passes K stored member bs ≡ flip-bytes K member bs
-  in-place-is-flip member =
-      ap (passes K stored member) written ∙ in-place-law K member (w .0) p obeys ∙ sym (flip-of-file K member (w .0) p obeys) ∙ ap (flip-bytes K member) (sym written)
-
-  -- it has its first twelve bytes
-  pub accepted-long : 12 ≤ length bs
-  unfolding file-bytes layout-bytes in-parts
-  accepted-long =
-      let rest : List ℕ = arrays-bytes K stored (arrays-of K (layout-of-file (w .0))) ++ joined (layout-of-file (w .0) .bodies) in
-      omega (arith, ap length written, length-append (fixed-bytes stored) rest, fixed-length stored)
-
-  -- the fields that were read are the file's, and in their ranges
-  module _ (f : Fields) (e : f ≡ fields-of (fixed-at bs)) where
-    pub fields-are : fixed f ≡ stored
-    unfolding file-bytes
-    fields-are =
-        ap fixed e ∙ ap (λ (x : Fixed). fixed (fields-of x)) (ap fixed-at written ∙ fixed-at-layout K (layout-of-file (w .0)) p (obeys .layout))
-
-    pub fields-small : (f .variants ≤ 16777216) × (f .samples ≤ 65536)
-    fields-small = (
-      omega (arith, ap (λ (x : Fixed). x .variants) fields-are, from-1-to-most most-variants (stored .variants) (obeys .layout .fixed .variants)),
-      omega (arith, ap (λ (x : Fixed). x .samples) fields-are, from-1-to-most most-samples (stored .samples) (obeys .layout .fixed .samples)),
-    )
+-- DEMAND 3, in place: of an accepted file the passes leave its flip
+pub in-place-is-flip : (K : ℕ) (member : FileVariant → Bool) (bs : List ℕ) → zero < K → Bytes bs → (w : Accepted K bs)
+    → passes K (fixed-of (layout-of-file (w .0))) member bs ≡ flip-bytes K member bs
+in-place-is-flip K member bs p y w =
+    let h = file-exactly K bs (w .0) p y .0 (w .1) in
+    ap (passes K (fixed-of (layout-of-file (w .0))) member) (h .1)
+    ∙ in-place-law K member (w .0) p (h .0) ∙ sym (flip-of-file K member (w .0) p (h .0)) ∙ ap (flip-bytes K member) (sym (h .1))

@@ -51,7 +51,8 @@ accepted : {A : Type 0} (out : Out A) → Refuses CheckNumber out → refusal-of
 accepted (ok a left) h e = (a, left, refl)
 accepted (refuse number place) h e = absurd (omega (arith, h .0 .0))
 
-summary-refusal : (out : Out Layout) → summary out .refusal ≡ refusal-of out
+-- a summary has the refusal of what it sums up
+pub summary-refusal : (out : Out Layout) → summary out .refusal ≡ refusal-of out
 summary-refusal (ok l left) = refl
 summary-refusal (refuse number place) = refl
 

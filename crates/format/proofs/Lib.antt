@@ -40,6 +40,8 @@ pub mod RefusalsByIndexTurns
 pub mod AnchorByIndex
 pub mod BytesLaws
 pub mod CallLaws
+pub mod CallPromises
 pub mod Orders
 pub mod InOrderLaws
 pub mod RecordTurns
+pub mod Unique

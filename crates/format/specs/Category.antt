@@ -4,7 +4,7 @@ use Prim.Native.Nat.{ℕ, zero, suc}
 use mathlib.Core.Bool.{Bool, true, false}
 use mathlib.Core.List.{List, map}
 
--- 01, Categories: "0 homozygous reference, 1 heterozygous, 2 double alternate, 3 missing". Demand 3: categories 0 and 2 exchanged.
+-- 01, Categories and kinds: "0 homozygous reference, 1 heterozygous, 2 double alternate, 3 missing". Demand 3: categories 0 and 2 exchanged.
 -- Every other number stays, so that no law about it has a premise.
 abbrev pub exchange : ℕ → ℕ
 exchange zero = 2

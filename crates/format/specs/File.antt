@@ -79,14 +79,14 @@ abbrev pub type-of : Layout → FileVariant → ℕ
 type-of l v = getD (l .types) (v .0) 0
 
 unfoldable pub read-over : ℕ → Layout → List ℕ → FileVariant → Out (List ℕ)
-read-over K l lent v =
-    map-out (body-categories (l .samples) lent) (read-body (record-start K l (next-variant v)) (l .samples) lent (type-of l v) (getD (l .bodies) (v .0) []))
+read-over K l anchor v =
+    map-out (body-categories (l .samples) anchor) (read-body (record-start K l (next-variant v)) (l .samples) anchor (type-of l v) (getD (l .bodies) (v .0) []))
 
 -- 01, Replies: "a read or lookup checks only its variant's, and an anchor is checked before the record that leans on it"
 unfoldable pub read-variant : ℕ → Layout → FileVariant → Out (List ℕ)
 read-variant K l v =
     pick (leans (type-of l v))
-    (bind (read-over K l [] (anchor K (l .types) v)) (λ lent left. read-over K l lent v))
+    (bind (read-over K l [] (anchor K (l .types) v)) (λ row left. read-over K l row v))
     (read-over K l [] v)
 
 -- what variant v of a file reads as

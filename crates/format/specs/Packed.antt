@@ -22,7 +22,7 @@ more two = 3
 more four = 1
 more eight = 0
 
--- 01, Categories: "Packed: two bits per sample, lowest sample in the lowest bits"; The header: "packed types (low nibble first)".
+-- 01, Categories and kinds: "Packed: two bits per sample, lowest sample in the lowest bits"; The header: "packed types (low nibble first)".
 -- b is a limit, m what `more` is. byte-of: what a byte with so much room gets; packed-after: the bytes after one with so much room.
 unfoldable pub byte-of : ℕ → ℕ → List ℕ → ℕ
 byte-of b room [] = 0

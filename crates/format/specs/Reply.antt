@@ -1,7 +1,7 @@
 -- For each public call the reply and the later content of every buffer it was lent, for all inputs. K is the number of variants to a block.
 -- Assumes nothing.
 use Prim.Native.Nat.{ℕ, _+_, _/_, _%_, _^_}
-use mathlib.Core.Bool.{Bool, _&&_, _||_}
+use mathlib.Core.Bool.{Bool, true, false, _&&_, _||_}
 use mathlib.Core.List.{List, [], _++_}
 use lib.ListN.{length, drop, getD, replicate}
 use lib.Dec.{eqb, ltb, leb}
@@ -23,6 +23,10 @@ use Rattle.format.specs.Writer.{write-record}
 
 -- ---- the parts of a reply
 
+abbrev pub is-accepted : {A : Type 0} → Out A → Bool
+is-accepted (ok a left) = true
+is-accepted (refuse number place) = false
+
 -- 01, Replies: "An accepted call has refusal 0 and place 0."
 abbrev pub refusal-of : {A : Type 0} → Out A → ℕ
 refusal-of (ok a left) = 0
@@ -41,8 +45,11 @@ given f other (refuse number place) = other
 abbrev pub keeps-work : ℕ → Bool
 keeps-work number = (leb 1 number && leb number 11) || eqb number 21
 
+abbrev pub emptied : ℕ → List ℕ → List ℕ
+emptied N row = replicate N 0 ++ drop N row
+
 abbrev pub work-after : ℕ → ℕ → List ℕ → List ℕ
-work-after N number work = pick (keeps-work number) work (replicate N 0 ++ drop N work)
+work-after N number work = pick (keeps-work number) work (emptied N work)
 
 -- N of a file whose header is accepted
 abbrev pub samples-of : ℕ → List ℕ → ℕ
@@ -63,6 +70,7 @@ with-layout K file sized next = bind (read-layout K file) (λ l left. need (size
 
 -- 01: "the header check and the whole-file check give mode, M, N and the form byte (0 for each on a refusal)"
 pub record Summary : Type 0 where
+  pub accepted : Bool
   pub refusal : ℕ
   pub place : ℕ
   pub mode : ℕ
@@ -71,14 +79,15 @@ pub record Summary : Type 0 where
   pub form : ℕ
 
 abbrev pub summary : Out Layout → Summary
-summary (ok l left) = record { refusal = 0; place = 0; mode = l .mode; variants = length (l .bodies); samples = l .samples; form = l .form }
-summary (refuse number place) = record { refusal = number; place = place; mode = 0; variants = 0; samples = 0; form = 0 }
+summary (ok l left) = record { accepted = true; refusal = 0; place = 0; mode = l .mode; variants = length (l .bodies); samples = l .samples; form = l .form }
+summary (refuse number place) = record { accepted = false; refusal = number; place = place; mode = 0; variants = 0; samples = 0; form = 0 }
 
--- the numbers and values of each case of the answer; of every other call with the lent buffers as it leaves them
+-- 01, Forms for each place: "Where an answer is an enum, a definition gives this paper's number and values for each of its cases". So do the `-left` of
+-- the other calls, each with the lent buffers as the call leaves them. `accepted` tells acceptance from a refusal with number 0, which no call gives.
 abbrev pub header-left : HeaderReply → Summary
 header-left (header.Accepted mode variants samples form) =
-    record { refusal = 0; place = 0; mode = mode; variants = variants; samples = samples; form = form }
-header-left (header.Refused number place) = record { refusal = number; place = place; mode = 0; variants = 0; samples = 0; form = 0 }
+    record { accepted = true; refusal = 0; place = 0; mode = mode; variants = variants; samples = samples; form = form }
+header-left (header.Refused number place) = record { accepted = false; refusal = number; place = place; mode = 0; variants = 0; samples = 0; form = 0 }
 
 unfoldable pub header-call : ℕ → List ℕ → Summary
 header-call K file = summary (read-layout K file)
@@ -110,14 +119,15 @@ abbrev pub need-variant : {A : Type 0} → FileVariant → Layout → Out A → 
 need-variant v l next = need (ltb (v .0) (length (l .bodies))) 11 0 next
 
 pub record Read : Type 0 where
+  pub accepted : Bool
   pub refusal : ℕ
   pub place : ℕ
   pub output : List ℕ
   pub work : List ℕ
 
 abbrev pub read-left : Reply → List ℕ → List ℕ → Read
-read-left done.Accepted output work = record { refusal = 0; place = 0; output = output; work = work }
-read-left (done.Refused number place) output work = record { refusal = number; place = place; output = output; work = work }
+read-left done.Accepted output work = record { accepted = true; refusal = 0; place = 0; output = output; work = work }
+read-left (done.Refused number place) output work = record { accepted = false; refusal = number; place = place; output = output; work = work }
 
 abbrev pub read-out : ℕ → List ℕ → FileVariant → List ℕ → List ℕ → Out (List ℕ)
 read-out K file v output work =
@@ -126,6 +136,7 @@ read-out K file v output work =
 -- 01: "A read changes the output's first N bytes and no others."
 unfoldable pub read-call : ℕ → List ℕ → FileVariant → List ℕ → List ℕ → Read
 read-call K file v output work = record {
+  accepted = is-accepted (read-out K file v output work);
   refusal = refusal-of (read-out K file v output work);
   place = refused-at (read-out K file v output work);
   output = given (λ (row : List ℕ). row ++ drop (samples-of K file) output) output (read-out K file v output work);
@@ -133,14 +144,15 @@ read-call K file v output work = record {
 }
 
 pub record Lookup : Type 0 where
+  pub accepted : Bool
   pub refusal : ℕ
   pub place : ℕ
   pub category : ℕ
   pub work : List ℕ
 
 abbrev pub lookup-left : LookupReply → List ℕ → Lookup
-lookup-left (lookup.Category category) work = record { refusal = 0; place = 0; category = category; work = work }
-lookup-left (lookup.Refused number place) work = record { refusal = number; place = place; category = 0; work = work }
+lookup-left (lookup.Category category) work = record { accepted = true; refusal = 0; place = 0; category = category; work = work }
+lookup-left (lookup.Refused number place) work = record { accepted = false; refusal = number; place = place; category = 0; work = work }
 
 abbrev pub lookup-out : ℕ → List ℕ → FileVariant → ℕ → List ℕ → Out (List ℕ)
 lookup-out K file v sample work =
@@ -149,6 +161,7 @@ lookup-out K file v sample work =
 -- 01: "a lookup gives the category (0 on a refusal)"
 unfoldable pub lookup-call : ℕ → List ℕ → FileVariant → ℕ → List ℕ → Lookup
 lookup-call K file v sample work = record {
+  accepted = is-accepted (lookup-out K file v sample work);
   refusal = refusal-of (lookup-out K file v sample work);
   place = refused-at (lookup-out K file v sample work);
   category = given (λ (row : List ℕ). getD row sample 0) 0 (lookup-out K file v sample work);
@@ -161,6 +174,10 @@ pub record View : Type 0 where
   pub refusal : ℕ
   pub place : ℕ
   pub part : List ℕ
+
+-- the refusal and place that the call leaves in two lent numbers, and the part that it hands back
+abbrev pub view-left : ℕ → ℕ → List ℕ → View
+view-left refusal place part = record { refusal = refusal; place = place; part = part }
 
 -- 01: "A view checks 1 to 9 and 11 only."
 abbrev pub view-out : ℕ → List ℕ → FileVariant → Out (List ℕ)
@@ -177,22 +194,24 @@ view-call K file v = record {
 -- ---- write
 
 pub record Written : Type 0 where
+  pub accepted : Bool
   pub refusal : ℕ
   pub place : ℕ
   pub count : ℕ
   pub output : List ℕ
 
 abbrev pub write-left : WriteReply → List ℕ → Written
-write-left (write.Count count) output = record { refusal = 0; place = 0; count = count; output = output }
-write-left (write.Refused number place) output = record { refusal = number; place = place; count = 0; output = output }
+write-left (write.Count count) output = record { accepted = true; refusal = 0; place = 0; count = count; output = output }
+write-left (write.Refused number place) output = record { accepted = false; refusal = number; place = place; count = 0; output = output }
 
 -- 01: "It replies with the byte count; bytes past it are untouched. A refusal has count 0."
 unfoldable pub write-call : List ℕ → ℕ → ℕ → List ℕ → List ℕ → Written
-write-call categories number code lent output = record {
-  refusal = refusal-of (write-record categories number code lent (length output));
-  place = refused-at (write-record categories number code lent (length output));
-  count = given length 0 (write-record categories number code lent (length output));
-  output = given (λ (bs : List ℕ). bs ++ drop (length bs) output) output (write-record categories number code lent (length output));
+write-call categories number code anchor output = record {
+  accepted = is-accepted (write-record categories number code anchor (length output));
+  refusal = refusal-of (write-record categories number code anchor (length output));
+  place = refused-at (write-record categories number code anchor (length output));
+  count = given length 0 (write-record categories number code anchor (length output));
+  output = given (λ (bs : List ℕ). bs ++ drop (length bs) output) output (write-record categories number code anchor (length output));
 }
 
 -- ---- flip
@@ -204,19 +223,20 @@ set-bit set v = eqb (getD set (v / 8) 0 / 2 ^ (v % 8) % 2) 1
 abbrev pub member : List ℕ → FileVariant → Bool
 member set v = set-bit set (v .0)
 
--- 01: 21, "flip set has bits past the last variant": of its last byte, which holds a bit of variant M − 1, the bits from M on
+-- 01: 21, "flip set has bits past the last variant": what the set holds from bit M on, 0 where M bits fill its last byte
 abbrev pub past-last : ℕ → List ℕ → ℕ
 past-last M set = getD set (M / 8) 0 / 2 ^ (M % 8)
 
 pub record Flipped : Type 0 where
+  pub accepted : Bool
   pub refusal : ℕ
   pub place : ℕ
   pub file : List ℕ
   pub work : List ℕ
 
 abbrev pub flip-left : Reply → List ℕ → List ℕ → Flipped
-flip-left done.Accepted file work = record { refusal = 0; place = 0; file = file; work = work }
-flip-left (done.Refused number place) file work = record { refusal = number; place = place; file = file; work = work }
+flip-left done.Accepted file work = record { accepted = true; refusal = 0; place = 0; file = file; work = work }
+flip-left (done.Refused number place) file work = record { accepted = false; refusal = number; place = place; file = file; work = work }
 
 -- 01: "For flips 21 comes next." Then the records, all of them
 abbrev pub flip-out : ℕ → List ℕ → List ℕ → List ℕ → Out Layout
@@ -226,6 +246,7 @@ flip-out K file set work =
 
 unfoldable pub flip-call : ℕ → List ℕ → List ℕ → List ℕ → Flipped
 flip-call K file set work = record {
+  accepted = is-accepted (flip-out K file set work);
   refusal = refusal-of (flip-out K file set work);
   place = refused-at (flip-out K file set work);
   file = given (λ (l : Layout). flip-bytes K (member set) file) file (flip-out K file set work);

@@ -33,16 +33,16 @@ pair-track categories not-coded = refuse 19 0
 
 -- 01, Replies: 19, "kind or pair code not allowed"; The writer: "a pair code (0 unless kind 1)". Kind 3 lists the categories before inversion.
 unfoldable pub kind-track : Kind → ℕ → List ℕ → List ℕ → Out Track
-kind-track array code lent categories = need (eqb code 0) 19 0 (ok (plain categories) [])
-kind-track paired code lent categories = pair-track categories (code-numbered code)
-kind-track (against-anchor inverted) code lent categories =
-    need (eqb code 0) 19 0 (ok (leaning inverted (differences 0 lent (exchange-all inverted categories))) [])
-kind-track (against-category base) code lent categories =
+kind-track array code anchor categories = need (eqb code 0) 19 0 (ok (plain categories) [])
+kind-track paired code anchor categories = pair-track categories (code-numbered code)
+kind-track (against-anchor inverted) code anchor categories =
+    need (eqb code 0) 19 0 (ok (leaning inverted (differences 0 anchor (exchange-all inverted categories))) [])
+kind-track (against-category base) code anchor categories =
     need (eqb code 0) 19 0 (ok (sparse base (differences 0 (replicate (length categories) base) categories)) [])
-kind-track no-kind code lent categories = refuse 19 0
+kind-track no-kind code anchor categories = refuse 19 0
 
 abbrev pub track-for : ℕ → ℕ → List ℕ → List ℕ → Out Track
-track-for number code lent categories = kind-track (kind number) code lent categories
+track-for number code anchor categories = kind-track (kind number) code anchor categories
 
 -- 01: "20 (categories, then anchor; the index counts within its own buffer)"
 unfoldable pub need-categories : {A : Type 0} → ℕ → List ℕ → Out A → Out A
@@ -52,12 +52,12 @@ need-categories i (category ∷ categories) next = need (ltb category 4) 20 i (n
 -- 01: "Order: 4 with place 0 (category count outside 1 to 65,536), 19, 10 (anchor not as long as the categories in kinds 2 and 3, or not empty in
 -- another), 20 ..., 10 (output shorter than the record)." room: the output's length.
 unfoldable pub write-record : List ℕ → ℕ → ℕ → List ℕ → ℕ → Out (List ℕ)
-write-record categories number code lent room =
+write-record categories number code anchor room =
     need (from-1-to most-samples (length categories)) 4 0
-    (bind (track-for number code lent categories) (λ track left.
-    need (eqb (length lent) (pick (leans number) (length categories) 0)) 10 0
+    (bind (track-for number code anchor categories) (λ track left.
+    need (eqb (length anchor) (pick (leans number) (length categories) 0)) 10 0
     (need-categories 0 categories
-    (need-categories 0 lent
+    (need-categories 0 anchor
     (need (leb (length (track-bytes (length categories) track)) room) 10 0
     (ok (track-bytes (length categories) track) []))))))
 

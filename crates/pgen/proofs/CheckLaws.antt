@@ -15,7 +15,7 @@ use Rattle.format.specs.Body.{Body}
 use Rattle.format.specs.Layout.{Layout}
 use Rattle.format.specs.Header.{read-layout}
 use Rattle.format.specs.File.{read-all}
-use Rattle.format.specs.Reply.{keeps-work, header-left, header-call, check-left, check-call}
+use Rattle.format.specs.Reply.{emptied, keeps-work, header-left, header-call, check-left, check-call}
 use Rattle.format.proofs.Refuses.{Refuses, Within}
 use Rattle.format.proofs.FileLaws.{bodies-are-bytes}
 use Rattle.format.proofs.CallRefusals.{all-refusals}
@@ -24,8 +24,8 @@ use Rattle.places.proofs.FromReply.{reply-accepted, reply-refused}
 use Rattle.record.specs.declared.RecordReply.{RecordReply}
 use Rattle.record.specs.declared.RecordReply.the-variants as of
 use Rattle.record.specs.Recorded.{done}
-use Rattle.reader.specs.Rows.{HasRow, cleared, all-checked}
-use Rattle.reader.proofs.Cut.{obeys, written}
+use Rattle.reader.specs.Rows.{HasRow, all-checked}
+use Rattle.extents.proofs.AcceptedLaws.{obeys, written}
 use Rattle.reader.proofs.Replies.{row-of, reply-of, WasRead, was-accepted, was-refused}
 use Rattle.pgen.proofs.WorkLaws.{header-keeps, record-clears}
 
@@ -38,7 +38,7 @@ module _ (bs work : List ℕ) (y : Bytes bs) (r : HeaderReply) (e : header-left 
   pub header-refused : (number place : ℕ) → r ≡ Refused number place → check-left (Refused number place) work ≡ check-call 65536 bs work
   unfolding check-call
   header-refused number place q =
-      let k : read-layout 65536 bs ≡ refuse number place = reply-refused bs number place y (rw q at e) in
+      let k : read-layout 65536 bs ≡ refuse number place = reply-refused bs number place (rw q at e) in
       simp (k, header-keeps bs number place k)
 
   module _ (mode variants samples form : ℕ) (q : r ≡ Accepted mode variants samples form) where
@@ -60,7 +60,7 @@ module _ (bs work : List ℕ) (y : Bytes bs) (r : HeaderReply) (e : header-left 
 
         -- 12 to 18
         refused-call : (number place : ℕ) → read-all 65536 (has .layout) ≡ refuse number place → keeps-work number ≡ false
-            → check-left (Refused number place) (cleared (has .layout .samples) work) ≡ check-call 65536 bs work
+            → check-left (Refused number place) (emptied (has .layout .samples) work) ≡ check-call 65536 bs work
         unfolding check-call
         refused-call number place n k = simp (has .accepted, le-leb (has .layout .samples) (length work) (omega (arith, has .samples-are)), n, k)
 
@@ -74,12 +74,12 @@ module _ (bs work : List ℕ) (y : Bytes bs) (r : HeaderReply) (e : header-left 
 
         -- all accepted
         accepted-call : WasRead (List Body) (read-all 65536 (has .layout))
-            → check-left (Accepted (has .layout .mode) (length (has .layout .bodies)) (has .layout .samples) (has .layout .form)) (cleared (has .layout .samples) work) ≡ check-call 65536 bs work
+            → check-left (Accepted (has .layout .mode) (length (has .layout .bodies)) (has .layout .samples) (has .layout .form)) (emptied (has .layout .samples) work) ≡ check-call 65536 bs work
         unfolding check-call
         accepted-call x = simp (has .accepted, le-leb (has .layout .samples) (length work) (omega (arith, has .samples-are)), x .is)
 
         pub records-accepted : got ≡ of.Accepted → check-left (Accepted mode variants samples form) work₁ ≡ check-call 65536 bs work
         records-accepted s =
             same-summary (has .layout .mode) (length (has .layout .bodies)) (has .layout .samples) (has .layout .form) mode variants samples form work₁
-            (cleared (has .layout .samples) work) (has .mode-is) (has .variants-are) (has .samples-are) (has .form-is) (ap row-of found)
+            (emptied (has .layout .samples) work) (has .mode-is) (has .variants-are) (has .samples-are) (has .form-is) (ap row-of found)
             ∙ accepted-call (was-accepted (List Body) (read-all 65536 (has .layout)) (sym (ap reply-of found) ∙ s))

@@ -16,7 +16,7 @@ use Rattle.format.specs.Body.{Body}
 use Rattle.format.specs.Layout.{most-variants, Layout}
 use Rattle.format.specs.Header.{read-layout}
 use Rattle.format.specs.File.{file-of, read-all, read-file, flip-bytes}
-use Rattle.format.specs.Reply.{keeps-work, header-left, header-call, member, past-last, flip-left, flip-call}
+use Rattle.format.specs.Reply.{emptied, keeps-work, header-left, header-call, member, past-last, flip-left, flip-call}
 use Rattle.format.proofs.Rules.{Holds}
 use Rattle.format.proofs.Refuses.{Refuses, Within}
 use Rattle.format.proofs.OffsetsLaws.{from-1-to-most}
@@ -28,8 +28,8 @@ use Rattle.record.specs.declared.RecordReply.{RecordReply}
 use Rattle.record.specs.declared.RecordReply.the-variants as of
 use Rattle.record.specs.Recorded.{done}
 use Rattle.flipfile.specs.Accepted as whole
-use Rattle.reader.specs.Rows.{HasRow, cleared, all-checked}
-use Rattle.reader.proofs.Cut.{obeys, written}
+use Rattle.reader.specs.Rows.{HasRow, all-checked}
+use Rattle.extents.proofs.AcceptedLaws.{obeys, written}
 use Rattle.reader.proofs.Replies.{row-of, reply-of, WasRead, was-accepted, was-refused}
 use Rattle.pgen.proofs.WorkLaws.{header-keeps, record-clears}
 
@@ -38,7 +38,7 @@ module _ (bs set work : List ℕ) (y : Bytes bs) (r : HeaderReply) (e : header-l
   pub flip-header-refused : (number place : ℕ) → r ≡ header.Refused number place → flip-left (Refused number place) bs work ≡ flip-call 65536 bs set work
   unfolding flip-call
   flip-header-refused number place q =
-      let k : read-layout 65536 bs ≡ refuse number place = reply-refused bs number place y (rw q at e) in
+      let k : read-layout 65536 bs ≡ refuse number place = reply-refused bs number place (rw q at e) in
       simp (k, header-keeps bs number place k)
 
   module _ (mode variants samples form : ℕ) (q : r ≡ header.Accepted mode variants samples form) where
@@ -80,12 +80,12 @@ module _ (bs set work : List ℕ) (y : Bytes bs) (r : HeaderReply) (e : header-l
           found : done got work₁ ≡ all-checked (has .layout) work
           found = d (has .layout) (has .accepted)
 
-          left-work : work₁ ≡ cleared samples work
-          left-work = ap row-of found ∙ ap (λ (n : ℕ). cleared n work) (has .samples-are)
+          left-work : work₁ ≡ emptied samples work
+          left-work = ap row-of found ∙ ap (λ (n : ℕ). emptied n work) (has .samples-are)
 
           -- 12 to 18
           refused-call : (number place : ℕ) → read-all 65536 (has .layout) ≡ refuse number place → keeps-work number ≡ false
-              → flip-left (Refused number place) bs (cleared samples work) ≡ flip-call 65536 bs set work
+              → flip-left (Refused number place) bs (emptied samples work) ≡ flip-call 65536 bs set work
           unfolding flip-call
           refused-call number place n k =
               simp (
@@ -122,7 +122,7 @@ module _ (bs set work : List ℕ) (y : Bytes bs) (r : HeaderReply) (e : header-l
                 = subst (Holds (IsFile 65536 bs)) file-read (file-as-written 65536 bs (lit< tt) y) in
                 (file-of (has .layout) (was .value), file-read ∙ ap (ok (file-of (has .layout) (was .value))) (w .ended))
 
-            accepted-call : flip-left Accepted (flip-bytes 65536 (member set) bs) (cleared samples work) ≡ flip-call 65536 bs set work
+            accepted-call : flip-left Accepted (flip-bytes 65536 (member set) bs) (emptied samples work) ≡ flip-call 65536 bs set work
             unfolding flip-call
             accepted-call =
                 simp (

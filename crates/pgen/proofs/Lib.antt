@@ -3,5 +3,3 @@ pub mod WorkLaws
 pub mod CheckLaws
 pub mod ReadLaws
 pub mod FlipLaws
-pub mod FlipPromises
-pub mod Unique

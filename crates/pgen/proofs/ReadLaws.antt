@@ -18,7 +18,7 @@ use Rattle.format.specs.Base.{Bytes, ok, refuse}
 use Rattle.format.specs.Layout.{Layout}
 use Rattle.format.specs.Header.{read-layout}
 use Rattle.format.specs.File.{read-variant}
-use Rattle.format.specs.Reply.{keeps-work, header-left, header-call, read-left, read-call, lookup-left, lookup-call}
+use Rattle.format.specs.Reply.{emptied, keeps-work, header-left, header-call, read-left, read-call, lookup-left, lookup-call}
 use Rattle.format.proofs.Refuses.{Refuses, Within}
 use Rattle.format.proofs.FileLaws.{bodies-are-bytes}
 use Rattle.format.proofs.CallRefusals.{variant-refusals}
@@ -27,15 +27,15 @@ use Rattle.places.proofs.FromReply.{reply-accepted, reply-refused}
 use Rattle.record.specs.declared.RecordReply.{RecordReply}
 use Rattle.record.specs.declared.RecordReply.the-variants as of
 use Rattle.record.specs.Recorded.{done}
-use Rattle.reader.specs.Rows.{HasVariantRow, cleared, row-left, row-read}
-use Rattle.reader.proofs.Cut.{obeys, written}
+use Rattle.reader.specs.Rows.{HasVariantRow, row-left, row-read}
+use Rattle.extents.proofs.AcceptedLaws.{obeys, written}
 use Rattle.reader.proofs.Replies.{row-of, WasRead, row-accepted, row-refused}
 use Rattle.pgen.proofs.WorkLaws.{header-keeps, record-clears}
 
 module _ (bs : List ℕ) (v : FileVariant) (work : List ℕ) (y : Bytes bs) (r : HeaderReply) (e : header-left r ≡ header-call 65536 bs) where
   -- 1 to 9
   refused-layout : (number place : ℕ) → r ≡ header.Refused number place → read-layout 65536 bs ≡ refuse number place
-  refused-layout number place q = reply-refused bs number place y (rw q at e)
+  refused-layout number place q = reply-refused bs number place (rw q at e)
 
   pub read-header-refused : (output : List ℕ) (number place : ℕ) → r ≡ header.Refused number place → read-left (Refused number place) output work ≡ read-call 65536 bs v output work
   unfolding read-call
@@ -107,7 +107,7 @@ module _ (bs : List ℕ) (v : FileVariant) (work : List ℕ) (y : Bytes bs) (r :
           record Refusal (number place : ℕ) : Type 0 where
             why : read-variant 65536 (has .layout) v ≡ refuse number place
             clears : keeps-work number ≡ false
-            left : work₁ ≡ cleared (has .layout .samples) work
+            left : work₁ ≡ emptied (has .layout .samples) work
 
           refusal : (number place : ℕ) → got ≡ of.Refused number place → Refusal number place
           refusal number place s =
@@ -169,7 +169,7 @@ module _ (bs : List ℕ) (v : FileVariant) (work : List ℕ) (y : Bytes bs) (r :
             rest = ap (drop samples) work-is ∙ drop-at (was .value) (drop samples work) samples count
 
             pub read-accepted : (output : List ℕ) → samples ≤ length output
-                → read-left Accepted (take samples work₁ ++ drop samples output) (cleared samples work₁) ≡ read-call 65536 bs v output work
+                → read-left Accepted (take samples work₁ ++ drop samples output) (emptied samples work₁) ≡ read-call 65536 bs v output work
             unfolding read-call
             read-accepted output t =
                 rw (front, rest)
@@ -182,7 +182,7 @@ module _ (bs : List ℕ) (v : FileVariant) (work : List ℕ) (y : Bytes bs) (r :
                   has .samples-are,
                 ))
 
-            pub lookup-accepted : (sample : ℕ) → sample < samples → lookup-left (lookup.Category (getD work₁ sample 0)) (cleared samples work₁) ≡ lookup-call 65536 bs v sample work
+            pub lookup-accepted : (sample : ℕ) → sample < samples → lookup-left (lookup.Category (getD work₁ sample 0)) (emptied samples work₁) ≡ lookup-call 65536 bs v sample work
             unfolding lookup-call
             lookup-accepted sample t =
                 let c : getD work₁ sample 0 ≡ getD (was .value) sample 0

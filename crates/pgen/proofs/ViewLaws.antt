@@ -12,17 +12,16 @@ use Rattle.format.specs.declared.HeaderReply.the-variants.{Accepted, Refused}
 use Rattle.format.specs.Base.{Bytes, ok}
 use Rattle.format.specs.Layout.{Layout}
 use Rattle.format.specs.Header.{read-layout}
-use Rattle.format.specs.Reply.{header-left, header-call, view-call}
+use Rattle.format.specs.Reply.{header-left, header-call, view-left, view-call}
 use Rattle.places.specs.declared.Place.{Place}
 use Rattle.places.specs.Located.{HasVariant, HasLayout, place-in}
 use Rattle.places.proofs.FromReply.{reply-accepted, reply-refused, has-variant, part-rises, part-inside, part-is}
-use Rattle.pgen.specs.Viewed.{viewed}
 
 -- 1 to 9
 pub header-refused : (bs : List ℕ) (v : FileVariant) (r : HeaderReply) (number place : ℕ) → Bytes bs → header-left r ≡ header-call 65536 bs → r ≡ Refused number place
-    → viewed number place [] ≡ view-call 65536 bs v
+    → view-left number place [] ≡ view-call 65536 bs v
 unfolding view-call
-header-refused bs v r number place y e q = simp (reply-refused bs number place y (rw q at e))
+header-refused bs v r number place y e q = simp (reply-refused bs number place (rw q at e))
 
 module _ (bs : List ℕ) (v : FileVariant) (r : HeaderReply) (mode variants samples form : ℕ) (y : Bytes bs) (e : header-left r ≡ header-call 65536 bs)
     (q : r ≡ Accepted mode variants samples form) where
@@ -30,7 +29,7 @@ module _ (bs : List ℕ) (v : FileVariant) (r : HeaderReply) (mode variants samp
   layout = reply-accepted bs mode variants samples form y (rw q at e)
 
   -- 11
-  pub no-variant : variants ≤ v .0 → viewed 11 0 [] ≡ view-call 65536 bs v
+  pub no-variant : variants ≤ v .0 → view-left 11 0 [] ≡ view-call 65536 bs v
   unfolding view-call
   no-variant l = simp (layout .accepted, le-ltb (v .0) (length (layout .layout .bodies)) (omega (arith, layout .variants-are)))
 
@@ -49,6 +48,6 @@ module _ (bs : List ℕ) (v : FileVariant) (r : HeaderReply) (mode variants samp
       inside = part-inside bs v a-variant y p is
 
       -- its part
-      pub its-part : viewed 0 0 (take (p .end - p .start) (drop (p .start) bs)) ≡ view-call 65536 bs v
+      pub its-part : view-left 0 0 (take (p .end - p .start) (drop (p .start) bs)) ≡ view-call 65536 bs v
       unfolding view-call
       its-part = simp (part-is bs v a-variant y p is, a-variant .accepted, lt-ltb (v .0) (length (a-variant .layout .bodies)) (a-variant .below))

@@ -1,9 +1,9 @@
 // The public calls. What each replies, and what it leaves in everything it was lent, is one equation, for all inputs.
 ghost use mathlib.Core.Path.{_≡_};
-ghost use Rattle.format.specs.Reply.{header-left, header-call, check-left, check-call, read-left, read-call, lookup-left, lookup-call, view-call, write-left, write-call, past-last, flip-left, flip-call};
+ghost use Rattle.format.specs.Reply.{header-left, header-call, check-left, check-call, read-left, read-call, lookup-left, lookup-call, view-left, view-call, write-left, write-call, past-last, flip-left, flip-call};
 ghost use Rattle.format.specs.declared.Reply.the-variants as done;
 ghost use Rattle.format.specs.declared.LookupReply.the-variants as none;
-ghost use Rattle.pgen.specs.Viewed.{viewed};
+ghost use Rattle.rows.specs.Calls.{start-rows-call, row-left, next-row-call};
 use extents::byte_at;
 use flipfile::flip_accepted;
 use format::FileVariant;
@@ -17,6 +17,9 @@ use places::place_of;
 use reader::check_records;
 use reader::read_row;
 use record::RecordReply;
+use rows::RowStep;
+use rows::Rows;
+use rows::RowsReply;
 
 // 01, Replies: "the header check and the whole-file check give mode, M, N and the form byte (0 for each on a refusal)"
 pub fn header_check(file: &[u8]) -> HeaderReply
@@ -106,6 +109,20 @@ pub fn read(file: &[u8], variant: FileVariant, output: &mut [u8], work: &mut [u8
     }
 }
 
+// A way through a whole file for one header check, which gives 1 to 9; then 10. The state that it gives stands before the file's first variant.
+pub fn start_rows(file: &[u8], work: &[u8]) -> RowsReply
+    ensures { λ r. ⌜ r ≡ start-rows-call (now (file .entry)) (now (work .entry)) ⌝ }
+{
+    rows::start_rows(file, work)
+}
+
+// What a read of the state's variant gives, and the state moved on. Between calls the work area holds the row that the next record may lean on.
+pub fn next_row(rows: Rows, file: &[u8], output: &mut [u8], work: &mut [u8]) -> RowStep
+    ensures { λ r. ⌜ row-left r (now (output .exit)) (now (work .exit)) ≡ next-row-call rows (now (file .entry)) (now (output .entry)) (now (work .entry)) ⌝ }
+{
+    rows::next_row(rows, file, output, work)
+}
+
 // 01: "a lookup gives the category (0 on a refusal)"
 pub fn lookup(file: &[u8], variant: FileVariant, sample: usize, work: &mut [u8]) -> LookupReply
     ensures { λ r. ⌜ lookup-left r (now (work .exit)) ≡ lookup-call 65536 (now (file .entry)) variant sample (now (work .entry)) ⌝ }
@@ -148,7 +165,7 @@ pub fn view<'a>(
     refusal: &mut u8,
     place: &mut usize,
 ) -> &'a [u8]
-    ensures { λ r. ⌜ viewed (now (refusal .exit)) (now (place .exit)) (now r) ≡ view-call 65536 (now (file .entry)) variant ⌝ }
+    ensures { λ r. ⌜ view-left (now (refusal .exit)) (now (place .exit)) (now r) ≡ view-call 65536 (now (file .entry)) variant ⌝ }
 {
     match header::check(file) {
         HeaderReply::Refused { number, place: at } => {

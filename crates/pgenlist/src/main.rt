@@ -2,15 +2,13 @@
 ghost use Prim.Native.Nat.{_≤_};
 ghost use mathlib.Core.Path.{_≡_};
 ghost use lib.ListN.{length};
-ghost use Rattle.reader.specs.Rows.{HasRow};
-use blocks::fields_at;
-use blocks::header_end;
+use extents::kind_of;
 use format::FileVariant;
 use format::HeaderReply;
-use packed::copy;
-use places::extent_of;
-use record::read_body;
-use types::type_leans;
+use pgen::next_row;
+use pgen::start_rows;
+use rows::Rows;
+use rows::RowsReply;
 
 // 01: "The listing program reads at most 65,536 bytes from standard input." One byte more shows that there are more.
 fn input_space() -> [u8; 65537]
@@ -39,36 +37,44 @@ fn put_row(out: &mut [u8], at: usize, v: usize, kind: u8, row: &[u8]) -> usize {
     text::put(out, filled, b'\n')
 }
 
-// The next record that leans leans on this one, unless this one leans.
-fn keep_anchor(kind: u8, row: &[u8], n: usize, anchor: &mut [u8])
-    requires { ⌜ (n ≤ length (now row)) × (n ≤ length (now anchor)) ⌝ }
+// Every row of an accepted file, one variant after another.
+fn put_rows(
+    file: &[u8],
+    first: Rows,
+    work: &mut [u8],
+    row: &mut [u8],
+    out: &mut [u8],
+    at: usize,
+) -> usize
+    requires { ⌜ (first .fields .variants ≤ 16777216) × (first .fields .samples ≤ length (now row)) ⌝ }
 {
-    if !type_leans(kind) {
-        copy(row, n, anchor);
-    }
-}
-
-// Every row of an accepted file, one record after another. `anchor` holds the categories of the last record that leans on none.
-fn put_rows(file: &[u8], anchor: &mut [u8], row: &mut [u8], out: &mut [u8], at: usize) -> usize
-    requires { ⌜ HasRow (now file) (now anchor) × HasRow (now file) (now row) ⌝ }
-{
-    let f = fields_at(file);
+    let f = first.fields;
     let m = f.variants;
     let n = f.samples;
-    let mut start = header_end(f);
+    let mut rows = first;
     let mut filled = at;
     let mut v: usize = 0;
     while v < m {
-        let x = extent_of(file, f, FileVariant(v));
-        let end = start + x.size;
-        copy(anchor, n, row);
-        read_body(&file[..end], start, n, x.kind, false, row);
-        filled = put_row(out, filled, v, x.kind, &row[..n]);
-        keep_anchor(x.kind, row, n, anchor);
-        start = end;
+        let step = next_row(rows, file, row, work);
+        rows = step.rows;
+        let kind = kind_of(file, f, FileVariant(v));
+        filled = put_row(out, filled, v, kind, &row[..n]);
         v = v + 1;
     }
     filled
+}
+
+fn put_variants(file: &[u8], work: &mut [u8], row: &mut [u8], out: &mut [u8], at: usize) -> usize
+    requires { ⌜ length (now row) ≡ 65536 ⌝ }
+{
+    let started = start_rows(file, work);
+    match started {
+        RowsReply::Refused {
+            number: _,
+            place: _,
+        } => at,
+        RowsReply::Started(first) => put_rows(file, first, work, row, out, at),
+    }
 }
 
 // 01: "A refused file gives only the line `refused`, number, place, spaced likewise".
@@ -81,10 +87,10 @@ fn put_refused(out: &mut [u8], number: u8, place: usize) -> usize {
 }
 
 // 01: "the listing program before it prints, make the whole-file check"
-fn list(file: &[u8], anchor: &mut [u8], row: &mut [u8], out: &mut [u8]) -> usize
-    requires { ⌜ (length (now anchor) ≡ 65536) × (length (now row) ≡ 65536) ⌝ }
+fn list(file: &[u8], work: &mut [u8], row: &mut [u8], out: &mut [u8]) -> usize
+    requires { ⌜ length (now row) ≡ 65536 ⌝ }
 {
-    let found = pgen::check(file, anchor);
+    let found = pgen::check(file, work);
     match found {
         HeaderReply::Refused { number, place } => put_refused(out, number, place),
         HeaderReply::Accepted {
@@ -97,14 +103,14 @@ fn list(file: &[u8], anchor: &mut [u8], row: &mut [u8], out: &mut [u8]) -> usize
             filled = text::put(out, filled, b' ');
             filled = text::put_decimal(out, filled, samples);
             filled = text::put(out, filled, b'\n');
-            put_rows(file, anchor, row, out, filled)
+            put_variants(file, work, row, out, filled)
         }
     }
 }
 
 // The file is what was read; a longer input is not looked at.
-fn run(input: &mut [u8], anchor: &mut [u8], row: &mut [u8], out: &mut [u8])
-    requires { ⌜ (length (now anchor) ≡ 65536) × (length (now row) ≡ 65536) ⌝ }
+fn run(input: &mut [u8], work: &mut [u8], row: &mut [u8], out: &mut [u8])
+    requires { ⌜ length (now row) ≡ 65536 ⌝ }
 {
     let count = io::read_full(0, input);
     if 65536 < count {
@@ -113,15 +119,15 @@ fn run(input: &mut [u8], anchor: &mut [u8], row: &mut [u8], out: &mut [u8])
         return;
     }
     if count <= input.len() {
-        let filled = list(&input[..count], anchor, row, out);
+        let filled = list(&input[..count], work, row, out);
         text::flush(out, filled);
     }
 }
 
 fn main() {
     let mut input = input_space();
-    let mut anchor = row_space();
+    let mut work = row_space();
     let mut row = row_space();
     let mut out = io::large_buffer();
-    run(&mut input, &mut anchor, &mut row, &mut out);
+    run(&mut input, &mut work, &mut row, &mut out);
 }

@@ -9,28 +9,27 @@ use native.Mathlib.Omega.{arith}
 use Rattle.format.specs.declared.FileVariant.{FileVariant}
 use Rattle.format.specs.declared.HeaderReply.the-variants.{Accepted, Refused}
 use Rattle.format.specs.Base.{Bytes, Out, ok, refuse}
-use Rattle.format.specs.Layout.{most-variants, Layout, body-lengths, record-start}
+use Rattle.format.specs.Layout.{Layout, body-lengths, record-start}
 use Rattle.format.specs.Header.{read-layout}
 use Rattle.format.specs.Reply.{Summary, summary, header-left, header-call}
 use Rattle.format.proofs.Rules.{Holds}
-use Rattle.format.proofs.Refuses.{Refuses, Within}
-use Rattle.format.proofs.HeaderRefusals.{header-refusals}
-use Rattle.format.proofs.OffsetsLaws.{from-1-to-positive}
+use Rattle.format.proofs.Unique.{apart}
 use Rattle.format.proofs.HeaderLaws.{IsLayout, layout-as-written}
 use Rattle.format.proofs.StartLaws.{body-length-at, body-at-is, record-end}
 use Rattle.places.specs.declared.Place.{Place}
 use Rattle.places.specs.Located.{HasVariant, HasLayout, place-in}
-use Rattle.places.proofs.AcceptedLaws.{obeys, written, record-ends}
+use Rattle.extents.proofs.AcceptedLaws.{obeys, written}
+use Rattle.places.proofs.AcceptedLaws.{record-ends}
 
 -- an accepted reply: the file has a layout
 pub reply-accepted : (bs : List ℕ) (mode variants samples form : ℕ) → Bytes bs → header-left (Accepted mode variants samples form) ≡ header-call 65536 bs
     → HasLayout bs mode variants samples form
 unfolding header-call
-reply-accepted bs mode variants samples form y q = go (read-layout 65536 bs) refl (header-refusals 65536 bs) (layout-as-written 65536 bs (lit< tt) y) q
+reply-accepted bs mode variants samples form y q = go (read-layout 65536 bs) refl (layout-as-written 65536 bs (lit< tt) y) q
   where
-    go : (m : Out Layout) → read-layout 65536 bs ≡ m → Refuses (Within 1 9) m → Holds (IsLayout 65536 bs) m → header-left (Accepted mode variants samples form) ≡ summary m
+    go : (m : Out Layout) → read-layout 65536 bs ≡ m → Holds (IsLayout 65536 bs) m → header-left (Accepted mode variants samples form) ≡ summary m
         → HasLayout bs mode variants samples form
-    go (ok l left) e r w q = record {
+    go (ok l left) e w q = record {
       layout = l;
       accepted = e ∙ ap (ok l) (w .ended);
       mode-is = ap (λ (z : Summary). z .mode) (sym q);
@@ -38,17 +37,16 @@ reply-accepted bs mode variants samples form y q = go (read-layout 65536 bs) ref
       samples-are = ap (λ (z : Summary). z .samples) (sym q);
       form-is = ap (λ (z : Summary). z .form) (sym q);
     }
-    go (refuse number place) e r w q = absurd (omega (arith, r .0, ap (λ (z : Summary). z .refusal) q))
+    go (refuse number place) e w q = apart (ap (λ (z : Summary). z .accepted) q)
 
 -- a refused reply: it has none, and this is why
-pub reply-refused : (bs : List ℕ) (number place : ℕ) → Bytes bs → header-left (Refused number place) ≡ header-call 65536 bs → read-layout 65536 bs ≡ refuse number place
+pub reply-refused : (bs : List ℕ) (number place : ℕ) → header-left (Refused number place) ≡ header-call 65536 bs → read-layout 65536 bs ≡ refuse number place
 unfolding header-call
-reply-refused bs number place y q = go (read-layout 65536 bs) refl (layout-as-written 65536 bs (lit< tt) y) q
+reply-refused bs number place q = go (read-layout 65536 bs) refl q
   where
-    go : (m : Out Layout) → read-layout 65536 bs ≡ m → Holds (IsLayout 65536 bs) m → header-left (Refused number place) ≡ summary m → read-layout 65536 bs ≡ refuse number place
-    go (ok l left) e w q =
-        absurd (omega (arith, from-1-to-positive most-variants (length (l .bodies)) (w .obeys .fixed .variants), ap (λ (z : Summary). z .variants) q))
-    go (refuse other there) e w q =
+    go : (m : Out Layout) → read-layout 65536 bs ≡ m → header-left (Refused number place) ≡ summary m → read-layout 65536 bs ≡ refuse number place
+    go (ok l left) e q = apart (sym (ap (λ (z : Summary). z .accepted) q))
+    go (refuse other there) e q =
         let a : other ≡ number = ap (λ (z : Summary). z .refusal) (sym q) in
         let b : there ≡ place = ap (λ (z : Summary). z .place) (sym q) in
         e ∙ rw (a, b) refl
@@ -67,12 +65,12 @@ module _ (bs : List ℕ) (v : FileVariant) (h : HasVariant bs v) (y : Bytes bs) 
   part-rises = omega (arith, ends)
 
   pub part-inside : p .end ≤ length bs
-  part-inside = omega (arith, ends, record-ends bs v h y, ap (λ (z : Place). z .start) e)
+  part-inside = omega (arith, ends, record-ends bs y (h .layout) (h .accepted) v (h .below), ap (λ (z : Place). z .start) e)
 
   pub part-is : take (p .end - p .start) (drop (p .start) bs) ≡ getD (h .layout .bodies) (v .0) []
   part-is =
       let l : Layout = h .layout in
       let n : p .end - p .start ≡ getD (body-lengths l) (v .0) 0 = omega (arith, ends, body-length-at v l) in
       let s : p .start ≡ record-start 65536 l v = ap (λ (z : Place). z .start) e in
-      rw (n, s) (ap (λ (z : List ℕ). take (getD (body-lengths l) (v .0) 0) (drop (record-start 65536 l v) z)) (written bs v h y)
-      ∙ body-at-is 65536 v l (lit< tt) (obeys bs v h y) (h .below))
+      rw (n, s) (ap (λ (z : List ℕ). take (getD (body-lengths l) (v .0) 0) (drop (record-start 65536 l v) z)) (written bs y (h .layout) (h .accepted))
+      ∙ body-at-is 65536 v l (lit< tt) (obeys bs y (h .layout) (h .accepted)) (h .below))

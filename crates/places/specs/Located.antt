@@ -4,7 +4,7 @@ use mathlib.Core.Path.{_≡_}
 use Prim.Native.Nat.{ℕ, _<_}
 use mathlib.Core.Bool.{true}
 use mathlib.Core.List.{List, []}
-use lib.ListN.{length, getD}
+use lib.ListN.{length}
 use Rattle.format.specs.declared.FileVariant.{FileVariant}
 use Rattle.format.specs.Base.{ok}
 use Rattle.format.specs.Track.{leans}
@@ -13,7 +13,6 @@ use Rattle.format.specs.Layout.{Layout, record-start}
 use Rattle.format.specs.Header.{read-layout}
 use Rattle.format.specs.File.{type-of}
 use Rattle.places.specs.declared.Place.{Place}
-use Rattle.places.specs.declared.Extent.{Extent}
 
 -- the file has a layout, and the layout this variant
 pub record HasVariant (bs : List ℕ) (v : FileVariant) : Type 0 where
@@ -38,7 +37,3 @@ pub record HasLayout (bs : List ℕ) (mode variants samples form : ℕ) : Type 0
   pub variants-are : length (layout .bodies) ≡ variants
   pub samples-are : layout .samples ≡ samples
   pub form-is : layout .form ≡ form
-
--- its length and its type
-abbrev pub extent-in : Layout → FileVariant → Extent
-extent-in l v = record { size = length (getD (l .bodies) (v .0) []); kind = type-of l v }

@@ -1,12 +1,12 @@
 -- A record of an accepted file, as code cuts it out of the file.
 -- Assumes nothing.
-use mathlib.Core.Path.{_≡_, refl, sym, ap, _∙_}
+use mathlib.Core.Path.{_≡_, refl, sym, ap, _∙_, subst}
 use mathlib.Core.Bool.{Bool, true, false, not, _&&_}
 use Prim.Native.Nat.{ℕ, _+_, _-_, _≤_, _<_}
 use mathlib.Core.List.{List, []}
 use lib.ListN.{length, take, drop, getD, length-take}
 use lib.Seq.{take-add, drop-at}
-use lib.Dec.{lit<, ltb, eqb}
+use lib.Dec.{ltb, eqb}
 use native.Mathlib.Omega.{arith}
 use borrow.Author.Tests.{ltb-true, eq-eqb}
 use Rattle.format.specs.declared.FileVariant.{FileVariant}
@@ -15,23 +15,22 @@ use Rattle.format.specs.Base.{Bytes, ok}
 use Rattle.format.specs.Track.{leans}
 use Rattle.format.specs.Body.{read-body}
 use Rattle.format.specs.Variant.{file-variant, next-variant, in-block}
-use Rattle.format.specs.Layout.{Fixed, most-samples, most-variants, Layout, fixed-of, layout-bytes, record-start, type-allowed, LayoutObeys}
+use Rattle.format.specs.Layout.{Layout, record-start, type-allowed}
 use Rattle.format.specs.Header.{read-layout}
 use Rattle.format.specs.File.{type-of}
 use Rattle.format.proofs.Rules.{never-both}
-use Rattle.format.proofs.OffsetsLaws.{from-1-to-most}
-use Rattle.format.proofs.HeaderLaws.{header-exactly}
 use Rattle.format.proofs.StartLaws.{record-end}
 use Rattle.format.proofs.AnchorLaws.{types-allowed-at}
 use Rattle.format.proofs.FileLaws.{one-type-each, bodies-are-bytes}
 use Rattle.format.proofs.CallRefusals.{stored-bytes}
-use Rattle.format.proofs.RefusalsByIndex.{fixed-at, fixed-at-layout}
+use Rattle.format.proofs.RefusalsByIndex.{fixed-at}
 use Rattle.blocks.specs.declared.Fields.{Fields}
 use Rattle.blocks.specs.Parts.{fixed, fields-of}
 use Rattle.places.specs.declared.Place.{Place}
-use Rattle.places.specs.declared.Extent.{Extent}
-use Rattle.places.specs.Located.{HasVariant, place-in, extent-in}
-use Rattle.places.proofs.AcceptedLaws.{same-place, record-ends}
+use Rattle.places.specs.Located.{HasVariant, place-in}
+use Rattle.extents.specs.Extent.{kind-at, size-at}
+use Rattle.extents.proofs.AcceptedLaws.{obeys, written, count-is}
+use Rattle.places.proofs.AcceptedLaws.{record-ends, place-is}
 use Rattle.places.proofs.FromReply.{part-is}
 use Rattle.record.specs.Recorded.{replied, recorded}
 
@@ -47,31 +46,8 @@ allowed i type h =
     (ltb-true type 8 (p .0), λ e. never-both (q .0) (ap not (eq-eqb type 5 e)))
 
 module _ (bs : List ℕ) (y : Bytes bs) (l : Layout) (a : read-layout 65536 bs ≡ ok l []) where
-  pub obeys : LayoutObeys 65536 l
-  obeys = header-exactly 65536 bs l (lit< tt) y .0 a .0
-
-  pub written : bs ≡ layout-bytes 65536 l
-  written = header-exactly 65536 bs l (lit< tt) y .0 a .1
-
   pub body-is-bytes : (v : ℕ) → Bytes (getD (l .bodies) v [])
-  body-is-bytes v = stored-bytes v (l .bodies) (bodies-are-bytes 65536 bs l y written)
-
-  pub few-samples : l .samples ≤ 65536
-  few-samples = from-1-to-most most-samples (l .samples) (obeys .fixed .samples)
-
-  -- the fields that code read
-  module _ (f : Fields) (e : f ≡ fields-of (fixed-at bs)) where
-    pub fields-are : fixed f ≡ fixed-of l
-    fields-are = ap fixed e ∙ ap (λ (z : Fixed). fixed (fields-of z)) (ap fixed-at written ∙ fixed-at-layout 65536 l (lit< tt) obeys)
-
-    pub count-is : f .variants ≡ length (l .bodies)
-    count-is = ap (λ (z : Fixed). z .variants) fields-are
-
-    pub samples-are : f .samples ≡ l .samples
-    samples-are = ap (λ (z : Fixed). z .samples) fields-are
-
-    pub few-variants : f .variants ≤ 16777216
-    few-variants = omega (arith, from-1-to-most most-variants (length (l .bodies)) (obeys .fixed .variants), count-is)
+  body-is-bytes v = stored-bytes v (l .bodies) (bodies-are-bytes 65536 bs l y (written bs y l a))
 
   module _ (v : FileVariant) (b : v .0 < length (l .bodies)) where
     abbrev pub has : HasVariant bs v
@@ -80,13 +56,7 @@ module _ (bs : List ℕ) (y : Bytes bs) (l : Layout) (a : read-layout 65536 bs �
     pub kind-known : (type-of l v < 8) × (type-of l v ≡ 5 → ⊥)
     kind-known =
         allowed (in-block 65536 (file-variant (0 + v .0))) (type-of l v)
-        (types-allowed-at 65536 0 (v .0) (l .types) (obeys .types) (omega (arith, one-type-each 65536 l obeys)))
-
-    -- its place, from where it starts, its length and its type
-    pub walk-place : (start : ℕ) → start ≡ record-start 65536 l v → (x : Extent) → x ≡ extent-in l v
-        → _≡_ {A = Place} (record { start = start; end = start + x .size; kind = x .kind }) (place-in l v)
-    walk-place start s x e =
-        same-place start (start + x .size) (x .kind) (place-in l v) s (omega (arith, ap (λ (z : Extent). z .size) e, record-end 65536 v l b, s)) (ap (λ (z : Extent). z .kind) e)
+        (types-allowed-at 65536 0 (v .0) (l .types) (obeys bs y l a .types) (omega (arith, one-type-each 65536 l (obeys bs y l a))))
 
     module _ (start end kind : ℕ) (p : _≡_ {A = Place} (record { start = start; end = end; kind = kind }) (place-in l v)) where
       ends : end ≡ start + length (getD (l .bodies) (v .0) [])
@@ -98,7 +68,7 @@ module _ (bs : List ℕ) (y : Bytes bs) (l : Layout) (a : read-layout 65536 bs �
       pub inside : end ≤ length bs
       inside =
           let s : start ≡ record-start 65536 l v = ap (λ (z : Place). z .start) p in
-          let e : record-start 65536 l v + length (getD (l .bodies) (v .0) []) ≤ length bs = record-ends bs v has y in
+          let e : record-start 65536 l v + length (getD (l .bodies) (v .0) []) ≤ length bs = record-ends bs y l a v b in
           omega (arith, ends, s, e)
 
       -- the file cut where the record ends
@@ -124,3 +94,21 @@ module _ (bs : List ℕ) (y : Bytes bs) (l : Layout) (a : read-layout 65536 bs �
           let k : kind ≡ type-of l v = ap (λ (z : Place). z .kind) p in
           let e : length (take end bs) ≡ record-start 65536 l (next-variant v) = cut-end ∙ ap (λ (z : Place). z .end) p in
           rw (e, cut-body, k) refl
+
+  -- the next record of a walk, which knows where it starts, by the kind and the size that code read
+  module _ (f : Fields) (e : f ≡ fields-of (fixed-at bs)) (v : ℕ) (m : v < f .variants) (kind size : ℕ) (k : kind ≡ kind-at 65536 (fixed f) bs (file-variant v))
+      (z : size ≡ size-at 65536 (fixed f) bs (file-variant v)) (start : ℕ) (s : start ≡ record-start 65536 l (file-variant v)) where
+    lt : v < length (l .bodies)
+    lt = omega (arith, count-is bs y l a f e)
+
+    pub its-place : _≡_ {A = Place} (record { start = start; end = start + size; kind = kind }) (place-in l (file-variant v))
+    its-place = place-is bs y l a (file-variant v) lt f e start size s z kind k
+
+    pub its-end : start + size ≤ length bs
+    its-end = inside (file-variant v) lt start (start + size) kind its-place
+
+    pub its-cut : length (take (start + size) bs) ≡ start + size
+    its-cut = cut-end (file-variant v) lt start (start + size) kind its-place
+
+    pub its-kind : (kind < 8) × (kind ≡ 5 → ⊥)
+    its-kind = subst (λ (t : ℕ). (t < 8) × (t ≡ 5 → ⊥)) (sym (ap (λ (x : Place). x .kind) its-place)) (kind-known (file-variant v) lt)

@@ -21,12 +21,13 @@ use Rattle.format.proofs.InOrderLaws.{stands-alike}
 use Rattle.format.proofs.RecordTurns.{record-over, row-carried}
 use Rattle.places.specs.declared.Place.{Place}
 use Rattle.places.specs.Located.{place-in}
+use Rattle.extents.proofs.AcceptedLaws.{obeys}
 use Rattle.places.proofs.AcceptedLaws.{one-layout}
 use Rattle.record.specs.declared.RecordReply.{RecordReply}
 use Rattle.record.specs.declared.RecordReply.the-variants.{Accepted, Refused}
 use Rattle.record.specs.Recorded.{Outcome, done, replied, recorded}
 use Rattle.reader.specs.Rows.{HasVariantRow, row-left, row-read}
-use Rattle.reader.proofs.Cut.{obeys, body-is-bytes, recorded-is}
+use Rattle.reader.proofs.Cut.{body-is-bytes, recorded-is}
 use Rattle.reader.proofs.Replies.{row-of, reply-of, refusal}
 
 -- a record that is read, not only checked

@@ -3,11 +3,12 @@
 use mathlib.Core.Path.{_≡_}
 use Prim.Native.Nat.{ℕ, _≤_, _<_}
 use mathlib.Core.List.{List, [], _++_}
-use lib.ListN.{length, take, drop, replicate}
+use lib.ListN.{length, take, drop}
 use Rattle.format.specs.declared.FileVariant.{FileVariant}
 use Rattle.format.specs.Base.{Out, ok, refuse}
 use Rattle.format.specs.Layout.{Layout}
 use Rattle.format.specs.Header.{read-layout}
+use Rattle.format.specs.Reply.{emptied}
 use Rattle.format.specs.File.{read-all, read-over, read-variant}
 use Rattle.record.specs.declared.RecordReply.{RecordReply}
 use Rattle.record.specs.declared.RecordReply.the-variants.{Accepted, Refused}
@@ -27,10 +28,6 @@ pub record HasVariantRow (bs : List ℕ) (n : ℕ) (v : FileVariant) (row : List
   pub samples-are : layout .samples ≡ n
   pub room : n ≤ length row
 
--- 01, Replies: "its first N bytes are zero and the rest unchanged"
-abbrev pub cleared : ℕ → List ℕ → List ℕ
-cleared N row = replicate N 0 ++ drop N row
-
 -- accepted or refused, and how
 abbrev pub record-reply : {A : Type 0} → Out A → RecordReply
 record-reply (ok a left) = Accepted
@@ -38,16 +35,12 @@ record-reply (refuse number place) = Refused number place
 
 -- every record, in variant order
 abbrev pub all-checked : Layout → List ℕ → Outcome
-all-checked l row = done (record-reply (read-all 65536 l)) (cleared (l .samples) row)
+all-checked l row = done (record-reply (read-all 65536 l)) (emptied (l .samples) row)
 
 -- categories in the row's first N bytes; after a refusal they are zero
 abbrev pub row-left : ℕ → List ℕ → Out (List ℕ) → Outcome
 row-left N row (ok categories left) = done Accepted (categories ++ drop N row)
-row-left N row (refuse number place) = done (Refused number place) (cleared N row)
-
--- of a variant over the row
-abbrev pub over-row : Layout → FileVariant → List ℕ → Outcome
-over-row l v row = row-left (l .samples) row (read-over 65536 l (take (l .samples) row) v)
+row-left N row (refuse number place) = done (Refused number place) (emptied N row)
 
 -- of a variant over its anchor
 abbrev pub row-read : Layout → FileVariant → List ℕ → Outcome

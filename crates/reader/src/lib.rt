@@ -8,10 +8,11 @@ ghost use Rattle.record.specs.Recorded.{done};
 ghost use Rattle.reader.specs.Rows.{HasRow, HasVariantRow, all-checked, row-read};
 use blocks::fields_at;
 use blocks::header_end;
+use extents::kind_of;
+use extents::size_of;
 use format::FileVariant;
 use packed::clear;
 use places::anchor_of;
-use places::extent_of;
 use places::place_of;
 use record::RecordReply;
 use record::read_body;
@@ -29,9 +30,9 @@ pub fn check_records(file: &[u8], row: &mut [u8]) -> RecordReply
     let mut start = header_end(f);
     let mut v: usize = 0;
     while v < m {
-        let x = extent_of(file, f, FileVariant(v));
-        let end = start + x.size;
-        let got = read_body(&file[..end], start, n, x.kind, true, row);
+        let kind = kind_of(file, f, FileVariant(v));
+        let end = start + size_of(file, f, FileVariant(v));
+        let got = read_body(&file[..end], start, n, kind, true, row);
         match got {
             RecordReply::Refused { number, place } => {
                 clear(row, n);

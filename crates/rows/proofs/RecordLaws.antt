@@ -23,7 +23,6 @@ use Rattle.extents.specs.Extent.{kind-at, size-at}
 use Rattle.places.specs.declared.Place.{Place}
 use Rattle.reader.proofs.Cut.{allowed, both}
 use Rattle.rows.specs.declared.Rows.{Rows}
-use Rattle.rows.specs.declared.Found.the-variants as found-as
 use Rattle.rows.specs.Calls.{record-of, next-record, found, answered, Left, row-left, over-anchor, alone, read-at, stepped, next-row-call, Ready}
 
 -- in mode 0x02 every type is allowed

@@ -7,7 +7,6 @@ use mathlib.Core.Bool.{Bool, true, false, _&&_}
 use mathlib.Core.List.{List, _++_}
 use lib.ListN.{length, take, drop, length-take}
 use lib.Seq.{take-at, length-take-le}
-use lib.Dec.{eqb}
 use native.Mathlib.Omega.{arith}
 use borrow.Author.Tests.{eq-eqb, ne-eqb}
 use Rattle.format.specs.declared.Reply.the-variants.{Accepted, Refused}
@@ -18,9 +17,9 @@ use Rattle.format.specs.Variant.{file-variant}
 use Rattle.places.specs.declared.Place.{Place}
 use Rattle.record.specs.declared.RecordReply.{RecordReply}
 use Rattle.record.specs.declared.RecordReply.the-variants as record-reply
-use Rattle.record.specs.Recorded.{Outcome, done, replied, recorded}
+use Rattle.record.specs.Recorded.{done, replied, recorded}
 use Rattle.rows.specs.declared.Rows.{Rows}
-use Rattle.rows.specs.Calls.{Left, row-left, past, answered, alone, leaning, read-at, over-anchor, Ready}
+use Rattle.rows.specs.Calls.{row-left, past, answered, alone, leaning, read-at, over-anchor, Ready}
 
 module _ (rows : Rows) (file : List ℕ) (p : Place) (output work : List ℕ) (next : Rows) (got : RecordReply) (work₁ : List ℕ) where
   -- ---- a record that leans on none

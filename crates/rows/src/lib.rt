@@ -2,10 +2,7 @@
 // the work area holds the categories of the last record that leans on none, which is the anchor of the next one that leans.
 ghost use mathlib.Core.Path.{_≡_};
 ghost use mathlib.Core.Bool.{true, false};
-ghost use mathlib.Core.List.{[]};
 ghost use Prim.Native.Nat.{_≤_, _<_};
-ghost use lib.ListN.{length};
-ghost use Rattle.format.specs.Base.{Out};
 ghost use Rattle.format.specs.Track.{leans};
 ghost use Rattle.format.specs.Layout.{type-allowed};
 ghost use Rattle.format.specs.Layout.{plain-mode};

@@ -14,18 +14,19 @@ ghost use Rattle.types.specs.Fine.{Fine, FineByte, FineBytes};
 use format::BlockVariant;
 
 // 01, The header: "packed types (low nibble first)". The type of variant i of a block whose types start at `at`; `half`: types of 4 bits, else of 8.
-pub fn type_at(file: &[u8], at: usize, i: usize, half: bool) -> u8
-    requires { ⌜ at + i / suc (more (pick half four eight)) < length (now file) ⌝ }
-    ensures { λ r. ⌜ r ≡ digit-at (pick half four eight) (drop at (now (file .entry))) i ⌝ }
+pub fn type_at(file: &[u8], at: usize, i: BlockVariant, half: bool) -> u8
+    requires { ⌜ at + i .0 / suc (more (pick half four eight)) < length (now file) ⌝ }
+    ensures { λ r. ⌜ r ≡ digit-at (pick half four eight) (drop at (now (file .entry))) (i .0) ⌝ }
 {
+    let n = i.0;
     if half {
-        let byte = file[at + i / 2];
-        if i % 2 == 0 {
+        let byte = file[at + n / 2];
+        if n % 2 == 0 {
             return byte % 16;
         }
         return byte / 16;
     }
-    file[at + i]
+    file[at + n]
 }
 
 // 01: "A type is allowed if its kind is not 5, all its other bits are 0, and its kind is not 2 or 3 at the first variant of a block."
@@ -56,7 +57,7 @@ fn scan(file: &[u8], at: usize, n: usize, half: bool) -> BlockVariant
 {
     let mut i = 0;
     while i < n {
-        let kind = type_at(file, at, i, half);
+        let kind = type_at(file, at, BlockVariant(i), half);
         if !type_allowed(BlockVariant(i), kind) {
             return BlockVariant(i);
         }
@@ -137,7 +138,7 @@ pub fn bad_in_block(file: &[u8], at: usize, n: usize, half: bool) -> BlockVarian
     requires { ⌜ (1 ≤ n) × (n ≤ 65536) × (at + packed-size (pick half four eight) n ≤ length (now file)) ⌝ }
     ensures { λ r. ⌜ r ≡ bad-in-block (block-variant 0) (digits-at (pick half four eight) (drop at (now (file .entry))) 0 n) ⌝ }
 {
-    if type_leans(type_at(file, at, 0, half)) {
+    if type_leans(type_at(file, at, BlockVariant(0), half)) {
         return BlockVariant(0);
     }
     if none_amiss(file, at, types_size(n, half), half) {
@@ -155,7 +156,7 @@ pub fn nearest_before(file: &[u8], at: usize, i: BlockVariant, half: bool) -> Bl
     let mut k = n;
     while 0 < k {
         k = k - 1;
-        let kind = type_at(file, at, k, half);
+        let kind = type_at(file, at, BlockVariant(k), half);
         if !type_leans(kind) {
             return BlockVariant(k);
         }

@@ -2,6 +2,6 @@ pub mod AskedLaws
 pub mod CheckLaws
 pub mod SizeLaws
 pub mod CallLaws
-pub mod Unique
+pub mod Allowed
 pub mod Promises
 pub mod LargestLaws

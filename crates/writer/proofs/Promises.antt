@@ -21,7 +21,7 @@ use Rattle.format.proofs.CallRefusals.{WriteNumber, write-refusals}
 use Rattle.format.proofs.WriteBackLaws.{lent-for}
 use Rattle.format.proofs.WriteReadLaws.{ReadsBack, write-read, read-write}
 use Rattle.writer.proofs.CallLaws.{write-fits}
-use Rattle.writer.proofs.Unique.{Allows, Accepted, Refused, allows-count, allows-refused}
+use Rattle.writer.proofs.Allowed.{Allows, Accepted, Refused, allows-count, allows-refused}
 
 take-first : (count : ℕ) (bytes rest after : List ℕ) → count ≡ length bytes → after ≡ bytes ++ rest → take count after ≡ bytes
 take-first count bytes rest after c e = rw (c, e) (take-append-seam bytes rest)

@@ -40,7 +40,7 @@ is-allowed (asked.Pair p) = true
 is-allowed (asked.List b) = true
 is-allowed asked.NotAllowed = false
 
--- ---- 01, Categories and kinds: "Kind 0: the packed array. Kind 1: a pair code, a bit per sample ..., then a list"; the others are a list
+-- ---- 01, Categories and kinds: "Kind 0: the packed array."; "Kind 1: a pair code, a bit per sample (set: the higher category of the pair), then a list of pairs"; the others are a list
 
 abbrev pub asked-bytes : Asked → List ℕ → List ℕ → List ℕ
 asked-bytes asked.Array anchor categories = array-bytes arrays.Categories categories

@@ -23,7 +23,11 @@ add-result-2 : tie.Need-add-result-2
 add-result-2 c = let a = c .before .before .args in omega (arith, mul-le-mul-right {m = a .width} {n = 4} (a .n) (omega arith), types-small (a .n) (a .half))
 
 returns : tie.Need-returns
-returns c = let a = c .before .before .args in block-is (a .n) (a .half) (a .width) (a .stored) (c .before .types-size .result) (c .flags-size .result) (omega arith) (c .before .types-size .ensures) (c .flags-size .ensures .0) (c .flags-size .ensures .1)
+returns c =
+    let args = c .before .before .args in
+    let types-size = c .before .types-size in
+    block-is (args .n) (args .half) (args .width) (args .stored) (types-size .result) (c .flags-size .result) (omega arith) (types-size .ensures)
+    (c .flags-size .ensures .0) (c .flags-size .ensures .1)
 
 pub block-size-spec : {M : Type 1} → statement M
 block-size-spec =

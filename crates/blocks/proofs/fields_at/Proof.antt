@@ -25,7 +25,11 @@ shared-slice-read-t9 : tie.Need-shared-slice-read-t9
 shared-slice-read-t9 c = search needs
 
 returns : tie.Need-returns
-returns c = let a = c .before .before .before .before .before .args in fields-are (now (a .file)) (c .before .before .number-4 .result) (c .before .number-42 .result) (c .before .before .number-4 .ensures .0) (c .before .number-42 .ensures .0)
+returns c =
+    let args = c .before .before .before .before .before .args in
+    let number-4 = c .before .before .number-4 in
+    let number-42 = c .before .number-42 in
+    fields-are (now (args .file)) (number-4 .result) (number-42 .result) (number-4 .ensures .0) (number-42 .ensures .0)
 
 pub fields-at-spec : {M : Type 1} → statement M
 fields-at-spec =

@@ -35,7 +35,12 @@ returns : tie.Need-returns
 returns c = rw (c .before .enum-told .given .1) (c .four-categories .ensures)
 
 returns-2 : tie.Need-returns-2
-returns-2 c = rw (c .before .before .before .array .given .1) (byte-of-eight (numbers (array.Bits (c .before .before .before .array .given .0 .0)) (c .before .before .before .before .before .before .args .categories .now)) (c .before .before .before .before .before .before .args .i) (c .before .four-bits .result) (c .four-bits2 .result) (c .before .four-bits .ensures .0) (c .four-bits2 .ensures .0))
+returns-2 c =
+    let array-2 = c .before .before .before .array in
+    let args = c .before .before .before .before .before .before .args in
+    let four-bits = c .before .four-bits in
+    rw (array-2 .given .1)
+    (byte-of-eight (numbers (array.Bits (array-2 .given .0 .0)) (args .categories .now)) (args .i) (four-bits .result) (c .four-bits2 .result) (four-bits .ensures .0) (c .four-bits2 .ensures .0))
 
 pub byte-of-spec : {M : Type 1} → statement M
 byte-of-spec =

@@ -48,7 +48,12 @@ add-result-3 : tie.Need-add-result-3
 add-result-3 c = search needs
 
 returns : tie.Need-returns
-returns c = (half-of-four (numbers (array.Bits (c .before .before .before .before .before .args .higher)) (c .before .before .before .before .before .args .categories .now)) (c .before .before .before .before .before .args .i) (c .before .before .before .number-at .result) (c .before .before .number-at2 .result) (c .before .number-at3 .result) (c .number-at4 .result) (c .before .before .before .number-at .ensures .0) (c .before .before .number-at2 .ensures .0) (c .before .number-at3 .ensures .0) (c .number-at4 .ensures .0), omega (arith, (c .before .before .before .number-at .ensures .1), (c .before .before .number-at2 .ensures .1), (c .before .number-at3 .ensures .1), (c .number-at4 .ensures .1)))
+returns c =
+    let args = c .before .before .before .before .before .args in
+    let number-at = c .before .before .before .number-at in
+    let number-at2 = c .before .before .number-at2 in
+    let number-at3 = c .before .number-at3 in
+    (half-of-four (numbers (array.Bits (args .higher)) (args .categories .now)) (args .i) (number-at .result) (number-at2 .result) (number-at3 .result) (c .number-at4 .result) (number-at .ensures .0) (number-at2 .ensures .0) (number-at3 .ensures .0) (c .number-at4 .ensures .0), omega (arith, (number-at .ensures .1), (number-at2 .ensures .1), (number-at3 .ensures .1), (c .number-at4 .ensures .1)))
 
 pub four-bits-spec : {M : Type 1} → statement M
 four-bits-spec =

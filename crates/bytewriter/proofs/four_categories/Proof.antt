@@ -45,7 +45,13 @@ add-result-3 : tie.Need-add-result-3
 add-result-3 c = search needs
 
 returns : tie.Need-returns
-returns c = byte-of-four (c .before .before .before .before .before .args .categories .now) (c .before .before .before .before .before .args .i) (c .before .before .before .number-at .result) (c .before .before .number-at2 .result) (c .before .number-at3 .result) (c .number-at4 .result) (c .before .before .before .number-at .ensures .0) (c .before .before .number-at2 .ensures .0) (c .before .number-at3 .ensures .0) (c .number-at4 .ensures .0)
+returns c =
+    let args = c .before .before .before .before .before .args in
+    let number-at = c .before .before .before .number-at in
+    let number-at2 = c .before .before .number-at2 in
+    let number-at3 = c .before .number-at3 in
+    byte-of-four (args .categories .now) (args .i) (number-at .result) (number-at2 .result) (number-at3 .result) (c .number-at4 .result)
+    (number-at .ensures .0) (number-at2 .ensures .0) (number-at3 .ensures .0) (c .number-at4 .ensures .0)
 
 pub four-categories-spec : {M : Type 1} → statement M
 four-categories-spec =

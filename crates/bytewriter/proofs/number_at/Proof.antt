@@ -18,13 +18,24 @@ enum-known-array : tie.Need-enum-known-array
 enum-known-array c = search needs
 
 returns-2 : tie.Need-returns-2
-returns-2 c = number-bit (c .before .before .before .before .before .before .args .array) (c .before .before .before .before .before .before .args .categories .now) (c .before .before .before .before .before .before .args .i) (c .before .before .array .given .0 .0) (c .before .before .before .before .before .if1 .left) (c .before .before .array .given .1) (c .if2 .taken)
+returns-2 c =
+    let args = c .before .before .before .before .before .before .args in
+    let array = c .before .before .array in
+    let if1 = c .before .before .before .before .before .if1 in
+    number-bit (args .array) (args .categories .now) (args .i) (array .given .0 .0) (if1 .left) (array .given .1) (c .if2 .taken)
 
 returns-3 : tie.Need-returns-3
-returns-3 c = number-category (c .before .before .before .before .args .array) (c .before .before .before .before .args .categories .now) (c .before .before .before .before .args .i) (c .before .before .before .before .pre) (c .enum-told .given .1)
+returns-3 c =
+    let args = c .before .before .before .before .args in
+    let pre = c .before .before .before .before .pre in
+    number-category (args .array) (args .categories .now) (args .i) pre (c .enum-told .given .1)
 
 returns-4 : tie.Need-returns-4
-returns-4 c = number-no-bit (c .before .before .before .before .before .before .args .array) (c .before .before .before .before .before .before .args .categories .now) (c .before .before .before .before .before .before .args .i) (c .before .before .array .given .0 .0) (c .before .before .before .before .before .if1 .left) (c .before .before .array .given .1) (c .if2 .left)
+returns-4 c =
+    let args = c .before .before .before .before .before .before .args in
+    let array = c .before .before .array in
+    let if1 = c .before .before .before .before .before .if1 in
+    number-no-bit (args .array) (args .categories .now) (args .i) (array .given .0 .0) (if1 .left) (array .given .1) (c .if2 .left)
 
 pub number-at-spec : {M : Type 1} → statement M
 number-at-spec =

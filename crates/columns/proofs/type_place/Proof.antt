@@ -15,22 +15,48 @@ mul-at : tie.Need-mul-at
 mul-at c = omega (arith, few (c .before .block-of .result) (c .before .before .args .b .full) (omega (arith, c .before .block-of .ensures)) (c .before .before .pre .0 .full-most))
 
 add-at : tie.Need-add-at
-add-at c = omega (arith, few (c .before .before .block-of .result) (c .before .before .before .args .b .full) (omega (arith, c .before .before .block-of .ensures)) (c .before .before .before .pre .0 .full-most), c .before .before .before .pre .0 .at-most)
+add-at c =
+    let block-of = c .before .before .block-of in
+    let args = c .before .before .before .args in
+    let pre = c .before .before .before .pre in
+    omega (arith, few (block-of .result) (args .b .full) (omega (arith, block-of .ensures)) (pre .0 .full-most), pre .0 .at-most)
 
 in-block-requires : tie.Need-in-block-requires
 in-block-requires c κs = search needs
 
 add-result : tie.Need-add-result
-add-result c = omega (arith, few (c .before .before .before .before .before .block-of .result) (c .before .before .before .before .before .before .args .b .full) (omega (arith, c .before .before .before .before .before .block-of .ensures)) (c .before .before .before .before .before .before .pre .0 .full-most), c .before .before .before .before .before .before .pre .0 .at-most, ap (λ (z : BlockVariant). z .0) (c .before .before .in-block .ensures))
+add-result c =
+    let block-of = c .before .before .before .before .before .block-of in
+    let args = c .before .before .before .before .before .before .args in
+    let pre = c .before .before .before .before .before .before .pre in
+    let in-block = c .before .before .in-block in
+    omega
+    (arith, few (block-of .result) (args .b .full) (omega (arith, block-of .ensures)) (pre .0 .full-most), pre .0 .at-most, ap (λ (z : BlockVariant). z .0) (in-block .ensures))
 
 returns : tie.Need-returns
-returns c = half-place (c .before .before .before .before .before .before .args .b) (c .before .before .before .before .before .before .args .v) (c .before .before .before .before .before .block-of .result) (c .before .before .in-block .result) (c .before .if1 .taken) (c .before .before .before .before .before .block-of .ensures) (c .before .before .in-block .ensures)
+returns c =
+    let args = c .before .before .before .before .before .before .args in
+    let block-of = c .before .before .before .before .before .block-of in
+    let in-block = c .before .before .in-block in
+    let if1 = c .before .if1 in
+    half-place (args .b) (args .v) (block-of .result) (in-block .result) (if1 .taken) (block-of .ensures) (in-block .ensures)
 
 add-result-2 : tie.Need-add-result-2
-add-result-2 c = omega (arith, few (c .before .before .before .before .before .block-of .result) (c .before .before .before .before .before .before .args .b .full) (omega (arith, c .before .before .before .before .before .block-of .ensures)) (c .before .before .before .before .before .before .pre .0 .full-most), c .before .before .before .before .before .before .pre .0 .at-most, ap (λ (z : BlockVariant). z .0) (c .before .before .in-block .ensures))
+add-result-2 c =
+    let block-of = c .before .before .before .before .before .block-of in
+    let args = c .before .before .before .before .before .before .args in
+    let pre = c .before .before .before .before .before .before .pre in
+    let in-block = c .before .before .in-block in
+    omega
+    (arith, few (block-of .result) (args .b .full) (omega (arith, block-of .ensures)) (pre .0 .full-most), pre .0 .at-most, ap (λ (z : BlockVariant). z .0) (in-block .ensures))
 
 returns-2 : tie.Need-returns-2
-returns-2 c = whole-place (c .before .before .before .before .before .before .args .b) (c .before .before .before .before .before .before .args .v) (c .before .before .before .before .before .block-of .result) (c .before .before .in-block .result) (c .before .if1 .left) (c .before .before .before .before .before .block-of .ensures) (c .before .before .in-block .ensures)
+returns-2 c =
+    let args = c .before .before .before .before .before .before .args in
+    let block-of = c .before .before .before .before .before .block-of in
+    let in-block = c .before .before .in-block in
+    let if1 = c .before .if1 in
+    whole-place (args .b) (args .v) (block-of .result) (in-block .result) (if1 .left) (block-of .ensures) (in-block .ensures)
 
 pub type-place-spec : {M : Type 1} → statement M
 type-place-spec =

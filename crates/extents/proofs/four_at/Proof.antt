@@ -68,8 +68,11 @@ add-result-3 c = search needs
 
 returns-2 : tie.Need-returns-2
 returns-2 c =
-    let a = c .before .before .before .before .before .before .args in
-    omega (arith, c .before .before .before .byte-at .ensures, c .before .before .byte-at2 .ensures, c .before .byte-at3 .ensures, c .byte-at4 .ensures, four-bytes (a .at) (a .file .now))
+    let byte-at = c .before .before .before .byte-at in
+    let byte-at2 = c .before .before .byte-at2 in
+    let byte-at3 = c .before .byte-at3 in
+    let args = c .before .before .before .before .before .before .args in
+    omega (arith, byte-at .ensures, byte-at2 .ensures, byte-at3 .ensures, c .byte-at4 .ensures, four-bytes (args .at) (args .file .now))
 
 pub four-at-spec : {M : Type 1} → statement M
 four-at-spec =

@@ -14,23 +14,31 @@ cast-four c = search needs
 
 returns : tie.Need-returns
 returns c =
-    let a = c .before .before .before .args in
-    first-1 (a .file .now) (a .at) (a .width) (c .before .four-at .result) (λ i. c .before .before .shared-slice-known .given i .fits) (c .before .four-at .ensures) (c .if1 .taken)
+    let args = c .before .before .before .args in
+    let four-at = c .before .four-at in
+    let shared-slice-known = c .before .before .shared-slice-known in
+    first-1 (args .file .now) (args .at) (args .width) (four-at .result) (λ i. shared-slice-known .given i .fits) (four-at .ensures) (c .if1 .taken)
 
 returns-2 : tie.Need-returns-2
 returns-2 c =
-    let a = c .before .before .before .before .args in
-    first-2 (a .file .now) (a .at) (a .width) (c .before .before .four-at .result) (λ i. c .before .before .before .shared-slice-known .given i .fits) (c .before .before .four-at .ensures) (c .if2 .taken)
+    let args = c .before .before .before .before .args in
+    let four-at = c .before .before .four-at in
+    let shared-slice-known = c .before .before .before .shared-slice-known in
+    first-2 (args .file .now) (args .at) (args .width) (four-at .result) (λ i. shared-slice-known .given i .fits) (four-at .ensures) (c .if2 .taken)
 
 returns-3 : tie.Need-returns-3
 returns-3 c =
-    let a = c .before .before .before .before .before .args in
-    first-3 (a .file .now) (a .at) (a .width) (c .before .before .before .four-at .result) (λ i. c .before .before .before .before .shared-slice-known .given i .fits) (c .before .before .before .four-at .ensures) (c .if3 .taken)
+    let args = c .before .before .before .before .before .args in
+    let four-at = c .before .before .before .four-at in
+    let shared-slice-known = c .before .before .before .before .shared-slice-known in
+    first-3 (args .file .now) (args .at) (args .width) (four-at .result) (λ i. shared-slice-known .given i .fits) (four-at .ensures) (c .if3 .taken)
 
 returns-4 : tie.Need-returns-4
 returns-4 c =
-    let a = c .before .before .before .before .before .args in
-    all-4 (a .file .now) (a .at) (a .width) (c .before .before .before .four-at .result) (λ i. c .before .before .before .before .shared-slice-known .given i .fits) (c .before .before .before .four-at .ensures) (omega arith)
+    let args = c .before .before .before .before .before .args in
+    let four-at = c .before .before .before .four-at in
+    let shared-slice-known = c .before .before .before .before .shared-slice-known in
+    all-4 (args .file .now) (args .at) (args .width) (four-at .result) (λ i. shared-slice-known .given i .fits) (four-at .ensures) (omega arith)
 
 pub number-from-spec : {M : Type 1} → statement M
 number-from-spec =

@@ -32,23 +32,30 @@ in-block-requires c κs = search needs
 
 type-at-requires : tie.Need-type-at-requires
 type-at-requires c κs =
-    let a = c .before .before .before .before .before .before .before .before .args in
-    let b = c .before .before .before .before .before .before .blocks-of in
-    type-inside (b .result) (fixed (a .f)) (b .ensures .0) (a .file .now) (a .v) (c .before .before .before .block-of .result) (c .before .before .before .block-of .ensures) (c .in-block .result) (c .in-block .ensures)
-    (c .before .before .before .before .before .type-place .result) (c .before .before .before .before .before .type-place .ensures (fixed (a .f)) (b .ensures .0)) (c .before .before .before .before .if1 .taken)
+    let blocks-of = c .before .before .before .before .before .before .blocks-of in
+    let args = c .before .before .before .before .before .before .before .before .args in
+    let block-of = c .before .before .before .block-of in
+    let type-place = c .before .before .before .before .before .type-place in
+    let if1 = c .before .before .before .before .if1 in
+    let b = blocks-of in type-inside (b .result) (fixed (args .f)) (b .ensures .0) (args .file .now) (args .v) (block-of .result) (block-of .ensures)
+    (c .in-block .result) (c .in-block .ensures) (type-place .result) (type-place .ensures (fixed (args .f)) (b .ensures .0)) (if1 .taken)
 
 returns : tie.Need-returns
 returns c =
-    let a = c .before .before .before .before .before .before .before .before .before .args in
-    let b = c .before .before .before .before .before .before .before .blocks-of in
-    type-is (b .result) (fixed (a .f)) (b .ensures .0) (a .file .now) (a .v) (c .before .before .before .before .block-of .result) (c .before .before .before .before .block-of .ensures) (c .before .in-block .result) (c .before .in-block .ensures)
-    (c .type-at .result) (c .type-at .ensures)
+    let blocks-of = c .before .before .before .before .before .before .before .blocks-of in
+    let args = c .before .before .before .before .before .before .before .before .before .args in
+    let block-of = c .before .before .before .before .block-of in
+    let in-block = c .before .in-block in
+    let b = blocks-of in type-is (b .result) (fixed (args .f)) (b .ensures .0) (args .file .now) (args .v) (block-of .result) (block-of .ensures)
+    (in-block .result) (in-block .ensures) (c .type-at .result) (c .type-at .ensures)
 
 returns-2 : tie.Need-returns-2
 returns-2 c =
-    let a = c .before .before .before .before .args in
-    let b = c .before .before .blocks-of in
-    type-past (fixed (a .f)) (a .file .now) (a .v) (c .before .type-place .result) (c .before .type-place .ensures (fixed (a .f)) (b .ensures .0)) (c .if1 .left)
+    let blocks-of = c .before .before .blocks-of in
+    let args = c .before .before .before .before .args in
+    let type-place = c .before .type-place in
+    let b = blocks-of in type-past (fixed (args .f)) (args .file .now) (args .v) (type-place .result)
+    (type-place .ensures (fixed (args .f)) (b .ensures .0)) (c .if1 .left)
 
 pub type-of-spec : {M : Type 1} → statement M
 type-of-spec =

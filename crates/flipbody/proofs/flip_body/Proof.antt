@@ -22,9 +22,10 @@ same-length c = search needs
 
 returns : tie.Need-returns
 returns c =
-    let a = c .before .before .before .before .before .args in
-    let call = c .before .before .flip-part in
-    record-part (a .start) (a .end) (a .file .now) (call .last .0) _ (c .before .before .before .before .before .pre .1) (call .ensures)
+    let flip-part = c .before .before .flip-part in
+    let args = c .before .before .before .before .before .args in
+    let pre = c .before .before .before .before .before .pre in
+    let call = flip-part in record-part (args .start) (args .end) (args .file .now) (call .last .0) _ (pre .1) (call .ensures)
 
 pub flip-body-spec : {M : Type 1} → statement M
 flip-body-spec =

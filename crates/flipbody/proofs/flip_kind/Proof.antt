@@ -32,9 +32,10 @@ same-length-3 c = search needs
 
 returns-3 : tie.Need-returns-3
 returns-3 c =
-    let a = c .before .before .before .before .before .before .args in
-    let m = c .before .before .before .before .match in
-    c .before .before .flip-list .ensures ∙ kind-list (a .n) (a .kind) (a .s .now) (m .rest .0 .1) (m .rest .1)
+    let match = c .before .before .before .before .match in
+    let flip-list = c .before .before .flip-list in
+    let args = c .before .before .before .before .before .before .args in
+    let m = match in flip-list .ensures ∙ kind-list (args .n) (args .kind) (args .s .now) (m .rest .0 .1) (m .rest .1)
 
 pub flip-kind-spec : {M : Type 1} → statement M
 flip-kind-spec =

@@ -26,12 +26,13 @@ size-bytes-requires c κs = search needs
 
 add-flip-values : tie.Need-add-flip-values
 add-flip-values c =
-    let a = c .before .before .before .before .before .before .before .before .before .before .args in
-    let call = c .before .before .before .before .before .before .before .varint in
-    let h = c .before .before .size-of-heads in
-    let z = c .before .size-bytes in
-    let got = c .before .before .before .before .before .got .given in
-    omega (arith, list-small (a .n) (a .s .now) (call .ensures) (got .0 .0) (omega arith) (h .result) (z .result) (h .ensures) (z .ensures))
+    let varint = c .before .before .before .before .before .before .before .varint in
+    let size-of-heads = c .before .before .size-of-heads in
+    let size-bytes = c .before .size-bytes in
+    let got-2 = c .before .before .before .before .before .got in
+    let args = c .before .before .before .before .before .before .before .before .before .before .args in
+    let call = varint in let h = size-of-heads in let z = size-bytes in let got = got-2 .given in omega
+    (arith, list-small (args .n) (args .s .now) (call .ensures) (got .0 .0) (omega arith) (h .result) (z .result) (h .ensures) (z .ensures))
 
 add-flip-values-2 : tie.Need-add-flip-values-2
 add-flip-values-2 c =
@@ -78,10 +79,10 @@ same-length-3 c = search needs
 
 returns-3 : tie.Need-returns-3
 returns-3 c =
-    let a = c .before .before .before .before .before .before .before .args in
-    let call = c .before .before .before .before .varint in
-    let got = c .before .before .got .given in
-    list-over (a .n) (a .s .now) (call .ensures) (got .0 .0) (got .0 .1 .0) (got .1) (c .if1 .left)
+    let varint = c .before .before .before .before .varint in
+    let got-2 = c .before .before .got in
+    let args = c .before .before .before .before .before .before .before .args in
+    let call = varint in let got = got-2 .given in list-over (args .n) (args .s .now) (call .ensures) (got .0 .0) (got .0 .1 .0) (got .1) (c .if1 .left)
 
 pub flip-list-spec : {M : Type 1} → statement M
 flip-list-spec =

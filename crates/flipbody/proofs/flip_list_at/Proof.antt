@@ -25,9 +25,9 @@ same-length c = search needs
 
 returns : tie.Need-returns
 returns c =
-    let a = c .before .before .before .before .before .args in
-    let call = c .before .before .flip-list in
-    list-part (a .at) (a .n) (length (a .s .now) - a .at) (a .s .now) (call .last .0) refl (call .ensures)
+    let flip-list = c .before .before .flip-list in
+    let args = c .before .before .before .before .before .args in
+    let call = flip-list in list-part (args .at) (args .n) (length (args .s .now) - args .at) (args .s .now) (call .last .0) refl (call .ensures)
 
 pub flip-list-at-spec : {M : Type 1} → statement M
 flip-list-at-spec =

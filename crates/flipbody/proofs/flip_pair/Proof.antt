@@ -34,9 +34,10 @@ enum-told c = search needs
 
 returns-2 : tie.Need-returns-2
 returns-2 c =
-    let a = c .before .before .before .before .before .before .args in
-    let call = c .before .before .pair-of in
-    pair-other (a .n) (a .s .now) (c .before .before .before .before .if1 .left) (sym (call .ensures) ∙ c .enum-told .given .1)
+    let pair-of = c .before .before .pair-of in
+    let args = c .before .before .before .before .before .before .args in
+    let if1 = c .before .before .before .before .if1 in
+    let call = pair-of in pair-other (args .n) (args .s .now) (if1 .left) (sym (call .ensures) ∙ c .enum-told .given .1)
 
 slice-write-s : tie.Need-slice-write-s
 slice-write-s c = search needs

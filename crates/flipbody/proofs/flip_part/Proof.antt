@@ -16,15 +16,18 @@ same-length c = search needs
 
 returns : tie.Need-returns
 returns c =
-    let a = c .before .before .before .before .before .before .before .args in
-    let m = c .before .before .before .before .before .next-lent in
-    body-moves (a .n) (a .kind) (a .lent) (a .member) (m .result) (a .s .now) _ (m .ensures) (c .before .before .before .before .if1 .taken) (c .before .before .flip-kind .ensures)
+    let next-lent = c .before .before .before .before .before .next-lent in
+    let args = c .before .before .before .before .before .before .before .args in
+    let if1 = c .before .before .before .before .if1 in
+    let flip-kind = c .before .before .flip-kind in
+    let m = next-lent in body-moves (args .n) (args .kind) (args .lent) (args .member) (m .result) (args .s .now) _ (m .ensures) (if1 .taken)
+    (flip-kind .ensures)
 
 returns-2 : tie.Need-returns-2
 returns-2 c =
-    let a = c .before .before .before .args in
-    let m = c .before .next-lent in
-    body-stays (a .n) (a .kind) (a .lent) (a .member) (m .result) (a .s .now) (m .ensures) (c .if1 .left)
+    let next-lent = c .before .next-lent in
+    let args = c .before .before .before .args in
+    let m = next-lent in body-stays (args .n) (args .kind) (args .lent) (args .member) (m .result) (args .s .now) (m .ensures) (c .if1 .left)
 
 pub flip-part-spec : {M : Type 1} → statement M
 flip-part-spec =

@@ -21,8 +21,9 @@ same-length c = search needs
 
 returns : tie.Need-returns
 returns c =
-    let a = c .before .before .before .before .before .before .before .args in
-    c .before .before .exchange-values .ensures ∙ values-fit (a .p) (a .count) (a .s .now) (omega arith) (omega arith)
+    let exchange-values = c .before .before .exchange-values in
+    let args = c .before .before .before .before .before .before .before .args in
+    exchange-values .ensures ∙ values-fit (args .p) (args .count) (args .s .now) (omega arith) (omega arith)
 
 returns-2 : tie.Need-returns-2
 returns-2 c =

@@ -32,11 +32,12 @@ is-member-requires c κs = search needs
 
 flip-type-requires : tie.Need-flip-type-requires Inv-loop μ-loop
 flip-type-requires c κs =
-    let a = c .before .before .before .before .before .before .before .before .args in
-    let pre = c .before .before .before .before .before .before .before .before .pre in
-    let loop = c .before .before .before .before .before .loop in
-    let type-of = c .before .before .type-of in
-    (pre .0, omega arith, pre .1, read-small (a .f) (loop .file) (file-variant (loop .v)) (type-of .result) (type-of .ensures))
+    let pre-2 = c .before .before .before .before .before .before .before .before .pre in
+    let loop-2 = c .before .before .before .before .before .loop in
+    let type-of-2 = c .before .before .type-of in
+    let args = c .before .before .before .before .before .before .before .before .args in
+    let pre = pre-2 in let loop = loop-2 in let type-of = type-of-2 in
+    (pre .0, omega arith, pre .1, read-small (args .f) (loop .file) (file-variant (loop .v)) (type-of .result) (type-of .ensures))
 
 next-lent-requires : tie.Need-next-lent-requires Inv-loop μ-loop
 next-lent-requires c κs = search needs

@@ -22,8 +22,10 @@ slice-read-byte c = search needs
 
 with-type-requires : tie.Need-with-type-requires
 with-type-requires c κs =
-    let a = c .before .before .before .before .before .before .args in
-    room (a .f) (c .before .before .before .before .blocks-of .result) (c .before .before .before .before .blocks-of .ensures .0) (a .x) (c .before .before .before .before .before .before .pre .3)
+    let args = c .before .before .before .before .before .before .args in
+    let blocks-of = c .before .before .before .before .blocks-of in
+    let pre = c .before .before .before .before .before .before .pre in
+    room (args .f) (blocks-of .result) (blocks-of .ensures .0) (args .x) (pre .3)
 
 slice-write-file : tie.Need-slice-write-file
 slice-write-file c = search needs
@@ -33,19 +35,21 @@ same-length c = search needs
 
 returns : tie.Need-returns
 returns c =
-    let a = c .before .before .before .before .before .before .before .args in
-    let b = c .before .before .before .before .before .blocks-of in
-    let place = c .before .before .before .before .type-place in
-    let i = c .before .before .before .in-block in
-    put-inside (a .f) (b .result) (b .ensures .0) (a .file .now) (a .v) (a .x) (place .result) (place .ensures (fixed (a .f)) (b .ensures .0)) (i .result .0) (c .with-type .result)
+    let blocks-of = c .before .before .before .before .before .blocks-of in
+    let type-place = c .before .before .before .before .type-place in
+    let in-block = c .before .before .before .in-block in
+    let args = c .before .before .before .before .before .before .before .args in
+    let b = blocks-of in let place = type-place in let i = in-block in put-inside (args .f) (b .result) (b .ensures .0) (args .file .now) (args .v)
+    (args .x) (place .result) (place .ensures (fixed (args .f)) (b .ensures .0)) (i .result .0) (c .with-type .result)
     (ap (λ (z : BlockVariant). z .0) (i .ensures)) (c .with-type .ensures)
 
 returns-2 : tie.Need-returns-2
 returns-2 c =
-    let a = c .before .before .before .before .before .args in
-    let b = c .before .before .before .blocks-of in
-    let place = c .before .before .type-place in
-    put-outside (a .f) (b .result) (b .ensures .0) (a .file .now) (a .v) (a .x) (place .result) (place .ensures (fixed (a .f)) (b .ensures .0)) (c .if1 .left)
+    let blocks-of = c .before .before .before .blocks-of in
+    let type-place = c .before .before .type-place in
+    let args = c .before .before .before .before .before .args in
+    let b = blocks-of in let place = type-place in put-outside (args .f) (b .result) (b .ensures .0) (args .file .now) (args .v) (args .x) (place .result)
+    (place .ensures (fixed (args .f)) (b .ensures .0)) (c .if1 .left)
 
 pub put-type-spec : {M : Type 1} → statement M
 put-type-spec =

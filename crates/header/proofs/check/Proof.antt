@@ -14,13 +14,22 @@ number-at-requires : tie.Need-number-at-requires
 number-at-requires c κs = search needs
 
 returns-2 : tie.Need-returns-2
-returns-2 c = other-magic (now (c .before .before .before .before .args .file)) (c .before .number-at .result) (c .before .before .if1 .left) (c .before .number-at .ensures .0) (c .if2 .taken)
+returns-2 c =
+    let args = c .before .before .before .before .args in
+    let number-at = c .before .number-at in
+    let if1 = c .before .before .if1 in
+    other-magic (now (args .file)) (number-at .result) (if1 .left) (number-at .ensures .0) (c .if2 .taken)
 
 fields-at-requires : tie.Need-fields-at-requires
 fields-at-requires c κs = search needs
 
 check-fields-requires : tie.Need-check-fields-requires
-check-fields-requires c κs = (c .before .before .before .if1 .left, is-magic (now (c .before .before .before .before .before .args .file)) (c .before .before .number-at .result) (c .before .before .number-at .ensures .0) ∙ c .before .if2 .left, c .fields-at .ensures)
+check-fields-requires c κs =
+    let if1 = c .before .before .before .if1 in
+    let args = c .before .before .before .before .before .args in
+    let number-at = c .before .before .number-at in
+    let if2 = c .before .if2 in
+    (if1 .left, is-magic (now (args .file)) (number-at .result) (number-at .ensures .0) ∙ if2 .left, c .fields-at .ensures)
 
 returns-3 : tie.Need-returns-3
 returns-3 c = search needs

@@ -11,7 +11,11 @@ header-end-requires : tie.Need-header-end-requires
 header-end-requires c κs = ranges (now (c .before .args .file)) (c .before .args .f) (c .before .pre) .variants-most
 
 returns : tie.Need-returns
-returns c = inside (now (c .before .before .before .args .file)) (c .before .before .before .args .f) (c .before .header-end .result) (c .before .before .before .pre) (c .before .header-end .ensures .0) (c .if1 .taken)
+returns c =
+    let args = c .before .before .before .args in
+    let header-end = c .before .header-end in
+    let pre = c .before .before .before .pre in
+    inside (now (args .file)) (args .f) (header-end .result) pre (header-end .ensures .0) (c .if1 .taken)
 
 check-plain-requires : tie.Need-check-plain-requires
 check-plain-requires c κs = search needs

@@ -14,18 +14,27 @@ sub-last : tie.Need-sub-last
 sub-last c = omega (arith, ranges (now (c .before .before .args .file)) (c .before .before .args .f) (c .before .before .pre .held .ready) .variants-least)
 
 mul-unused-in : tie.Need-mul-unused-in
-mul-unused-in c = omega (arith, few ((c .before .before .before .args .f .variants - 1) / 65536) (c .before .before .before .args .b .full) (omega (arith, ranges (now (c .before .before .before .args .file)) (c .before .before .before .args .f) (c .before .before .before .pre .held .ready) .variants-most)) (c .before .before .before .pre .small .full-most))
+mul-unused-in c =
+    let args = c .before .before .before .args in
+    let pre = c .before .before .before .pre in
+    omega
+    (arith, few ((args .f .variants - 1) / 65536) (args .b .full) (omega (arith, ranges (now (args .file)) (args .f) (pre .held .ready) .variants-most)) (pre .small .full-most))
 
 add-unused-in : tie.Need-add-unused-in
-add-unused-in c = omega (arith, few ((c .before .before .before .before .args .f .variants - 1) / 65536) (c .before .before .before .before .args .b .full) (omega (arith, ranges (now (c .before .before .before .before .args .file)) (c .before .before .before .before .args .f) (c .before .before .before .before .pre .held .ready) .variants-most)) (c .before .before .before .before .pre .small .full-most), c .before .before .before .before .pre .small .at-most)
+add-unused-in c =
+    let args = c .before .before .before .before .args in
+    let pre = c .before .before .before .before .pre in
+    omega
+    (arith, few ((args .f .variants - 1) / 65536) (args .b .full) (omega (arith, ranges (now (args .file)) (args .f) (pre .held .ready) .variants-most)) (pre .small .full-most), pre .small .at-most)
 
 count-in-requires : tie.Need-count-in-requires
 count-in-requires c κs = let r = ranges (now (c .before .before .before .before .args .file)) (c .before .before .before .before .args .f) (c .before .before .before .before .pre .held .ready) in omega (arith, r .variants-least, r .variants-most)
 
 unused-in-requires : tie.Need-unused-in-requires
 unused-in-requires c κs =
-    let a = c .before .before .before .before .before .args in
-    (c .count-in .ensures .1, c .count-in .ensures .2, c .before .before .before .before .before .pre .small .width-most, last-fits (now (a .file)) (a .f) (a .b) (a .end) (c .before .before .before .before .before .pre) (c .count-in .result) (c .count-in .ensures .0))
+    let pre = c .before .before .before .before .before .pre in
+    let args = c .before .before .before .before .before .args in
+    (c .count-in .ensures .1, c .count-in .ensures .2, pre .small .width-most, last-fits (now (args .file)) (args .f) (args .b) (args .end) pre (c .count-in .result) (c .count-in .ensures .0))
 
 enum-known-place : tie.Need-enum-known-place
 enum-known-place c = search needs
@@ -34,10 +43,23 @@ enum-told : tie.Need-enum-told
 enum-told c = search needs
 
 returns : tie.Need-returns
-returns c = let a = c .before .before .before .before .before .before .before .before .before .args in unclear (now (a .file)) (a .f) (a .b) (a .end) (c .before .before .before .before .before .before .before .before .before .pre) (c .before .before .before .before .count-in .result) (c .before .before .before .unused-in .result) (c .before .before .before .before .count-in .ensures .0) (c .before .before .before .unused-in .ensures) (c .before .place .given .0 .0) (c .before .place .given .1)
+returns c =
+    let args = c .before .before .before .before .before .before .before .before .before .args in
+    let pre = c .before .before .before .before .before .before .before .before .before .pre in
+    let count-in = c .before .before .before .before .count-in in
+    let unused-in = c .before .before .before .unused-in in
+    let place = c .before .place in
+    unclear (now (args .file)) (args .f) (args .b) (args .end) pre (count-in .result) (unused-in .result) (count-in .ensures .0) (unused-in .ensures)
+    (place .given .0 .0) (place .given .1)
 
 returns-2 : tie.Need-returns-2
-returns-2 c = let a = c .before .before .before .before .before .before .before .before .args in clears (now (a .file)) (a .f) (a .b) (a .end) (c .before .before .before .before .before .before .before .before .pre) (c .before .before .before .count-in .result) (c .before .before .unused-in .result) (c .before .before .before .count-in .ensures .0) (c .before .before .unused-in .ensures) (c .enum-told .given .1)
+returns-2 c =
+    let args = c .before .before .before .before .before .before .before .before .args in
+    let pre = c .before .before .before .before .before .before .before .before .pre in
+    let count-in = c .before .before .before .count-in in
+    let unused-in = c .before .before .unused-in in
+    clears (now (args .file)) (args .f) (args .b) (args .end) pre (count-in .result) (unused-in .result) (count-in .ensures .0) (unused-in .ensures)
+    (c .enum-told .given .1)
 
 pub unused-bits-spec : {M : Type 1} → statement M
 unused-bits-spec =

@@ -21,10 +21,18 @@ sub-room : tie.Need-sub-room
 sub-room c = search needs
 
 add-size : tie.Need-add-size
-add-size c = omega (arith, (c .before .before .before .before .before .before .pre .0 .most), (c .before .before .varint-size .ensures), varint-length ((c .before .before .before .before .before .before .args .sample) - (c .before .before .before .before .before .before .args .group .before)) .1)
+add-size c =
+    let pre = c .before .before .before .before .before .before .pre in
+    let varint-size = c .before .before .varint-size in
+    let args = c .before .before .before .before .before .before .args in
+    omega (arith, (pre .0 .most), (varint-size .ensures), varint-length ((args .sample) - (args .group .before)) .1)
 
 returns-2 : tie.Need-returns-2
-returns-2 c = after-step (c .before .before .before .before .before .before .args .group) (c .before .before .before .before .before .before .args .sample) (c .before .before .before .before .if1 .left) (c .before .before .varint-size .result) (c .before .before .varint-size .ensures)
+returns-2 c =
+    let args = c .before .before .before .before .before .before .args in
+    let if1 = c .before .before .before .before .if1 in
+    let varint-size = c .before .before .varint-size in
+    after-step (args .group) (args .sample) (if1 .left) (varint-size .result) (varint-size .ensures)
 
 pub advance-spec : {M : Type 1} → statement M
 advance-spec =

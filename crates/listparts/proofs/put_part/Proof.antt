@@ -19,13 +19,22 @@ abbrev μ-loop : tie.MeasureT-loop
 μ-loop part base categories anchor output₀ at group₀ place₀ i₀ output group place i = length categories - i
 
 loop-holds : tie.Need-loop-holds Inv-loop μ-loop
-loop-holds c = start (c .before .before .before .args .part) (base-row (c .before .before .before .args .base) (c .before .before .before .args .anchor .now) (c .before .before .before .args .categories .now)) (row (c .before .before .before .args .base) (c .before .before .before .args .categories .now)) (length (c .before .before .before .args .categories .now)) (c .before .before .before .args .output .now) (c .before .before .before .args .at)
+loop-holds c =
+    let args = c .before .before .before .args in
+    start (args .part) (base-row (args .base) (args .anchor .now) (args .categories .now)) (row (args .base) (args .categories .now))
+    (length (args .categories .now)) (args .output .now) (args .at)
 
 sample-at-requires : tie.Need-sample-at-requires Inv-loop μ-loop
 sample-at-requires c κs = ((c .loop-test .taken), (c .before .before .before .before .before .pre .0))
 
 put-sample-requires : tie.Need-put-sample-requires Inv-loop μ-loop
-put-sample-requires c κs = ((omega (arith, (c .before .before .loop-test .taken), (c .before .before .before .before .before .before .before .pre .0 .few)), (c .before .before .before .loop .inv .fits)), omega (arith, turn-room (c .before .before .before .loop .inv) (omega (arith, (c .before .before .loop-test .taken), (c .before .before .before .before .before .before .before .pre .0 .each))) (omega (arith, (c .before .before .loop-test .taken), row-length (c .before .before .before .before .before .before .before .args .base) (c .before .before .before .before .before .before .before .args .categories .now))) (c .before .sample-at .result .base) (c .before .sample-at .result .value) (c .before .sample-at .ensures .1) (c .before .sample-at .ensures .0), (c .before .before .before .loop .inv .keeps), (c .before .before .before .before .before .before .before .pre .1)))
+put-sample-requires c κs =
+    let loop-test = c .before .before .loop-test in
+    let pre = c .before .before .before .before .before .before .before .pre in
+    let loop = c .before .before .before .loop in
+    let args = c .before .before .before .before .before .before .before .args in
+    let sample-at = c .before .sample-at in
+    ((omega (arith, (loop-test .taken), (pre .0 .few)), (loop .inv .fits)), omega (arith, turn-room (loop .inv) (omega (arith, (loop-test .taken), (pre .0 .each))) (omega (arith, (loop-test .taken), row-length (args .base) (args .categories .now))) (sample-at .result .base) (sample-at .result .value) (sample-at .ensures .1) (sample-at .ensures .0), (loop .inv .keeps), (pre .1)))
 
 add-i : tie.Need-add-i Inv-loop μ-loop
 add-i c = search needs
@@ -34,7 +43,16 @@ loop-less : tie.Need-loop-less Inv-loop μ-loop
 loop-less c = search needs
 
 loop-again : tie.Need-loop-again Inv-loop μ-loop
-loop-again c = turn-next (c .before .before .before .before .before .before .before .loop .inv) (omega (arith, (c .before .before .before .before .before .before .loop-test .taken), (c .before .before .before .before .before .before .before .before .before .before .before .pre .0 .each))) (omega (arith, (c .before .before .before .before .before .before .loop-test .taken), row-length (c .before .before .before .before .before .before .before .before .before .before .before .args .base) (c .before .before .before .before .before .before .before .before .before .before .before .args .categories .now))) (c .before .before .before .before .before .sample-at .result .base) (c .before .before .before .before .before .sample-at .result .value) (c .before .before .before .before .before .sample-at .ensures .1) (c .before .before .before .before .before .sample-at .ensures .0) (c .before .before .before .put-sample .ensures)
+loop-again c =
+    let loop = c .before .before .before .before .before .before .before .loop in
+    let loop-test = c .before .before .before .before .before .before .loop-test in
+    let pre = c .before .before .before .before .before .before .before .before .before .before .before .pre in
+    let args = c .before .before .before .before .before .before .before .before .before .before .before .args in
+    let sample-at = c .before .before .before .before .before .sample-at in
+    let put-sample = c .before .before .before .put-sample in
+    turn-next (loop .inv) (omega (arith, (loop-test .taken), (pre .0 .each)))
+    (omega (arith, (loop-test .taken), row-length (args .base) (args .categories .now))) (sample-at .result .base) (sample-at .result .value)
+    (sample-at .ensures .1) (sample-at .ensures .0) (put-sample .ensures)
 
 same-length : tie.Need-same-length Inv-loop μ-loop
 same-length c = (c .before .loop .inv .keeps)

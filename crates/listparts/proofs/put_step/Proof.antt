@@ -16,19 +16,31 @@ enum-told-3 : tie.Need-enum-told-3
 enum-told-3 c = search needs
 
 put-varint-requires : tie.Need-put-varint-requires
-put-varint-requires c κs = (room-step (c .before .before .before .before .args .part) (c .before .before .before .before .args .step) (c .before .before .before .before .args .output .now) (c .before .before .before .before .args .at) (c .before .enum-told3 .given .1) _ (c .before .before .before .before .pre .0), omega (arith, (c .before .before .before .before .pre .1)))
+put-varint-requires c κs =
+    let args = c .before .before .before .before .args in
+    let enum-told3 = c .before .enum-told3 in
+    let pre = c .before .before .before .before .pre in
+    (room-step (args .part) (args .step) (args .output .now) (args .at) (enum-told3 .given .1) _ (pre .0), omega (arith, (pre .1)))
 
 returns : tie.Need-returns
-returns c = step-heads (c .before .before .before .args .part) (c .before .before .before .args .step) (c .before .before .before .args .output .now) (c .before .before .before .args .at) (c .enum-told .given .1)
+returns c =
+    let args = c .before .before .before .args in
+    step-heads (args .part) (args .step) (args .output .now) (args .at) (c .enum-told .given .1)
 
 returns-2 : tie.Need-returns-2
-returns-2 c = step-sizes (c .before .before .before .args .part) (c .before .before .before .args .step) (c .before .before .before .args .output .now) (c .before .before .before .args .at) (c .enum-told2 .given .1)
+returns-2 c =
+    let args = c .before .before .before .args in
+    step-sizes (args .part) (args .step) (args .output .now) (args .at) (c .enum-told2 .given .1)
 
 same-length : tie.Need-same-length
 same-length c = search needs
 
 returns-3 : tie.Need-returns-3
-returns-3 c = step-steps (c .before .before .before .before .before .before .before .args .part) (c .before .before .before .before .before .before .before .args .step) (c .before .before .before .before .before .before .before .args .output .now) (c .before .before .before .before .before .before .before .args .at) (c .before .before .before .before .enum-told3 .given .1) _ _ (c .before .before .put-varint .ensures)
+returns-3 c =
+    let args = c .before .before .before .before .before .before .before .args in
+    let enum-told3 = c .before .before .before .before .enum-told3 in
+    let put-varint = c .before .before .put-varint in
+    step-steps (args .part) (args .step) (args .output .now) (args .at) (enum-told3 .given .1) _ _ (put-varint .ensures)
 
 pub put-step-spec : {M : Type 1} → statement M
 put-step-spec =

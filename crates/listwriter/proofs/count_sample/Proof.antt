@@ -21,12 +21,20 @@ add-count : tie.Need-add-count
 add-count c = search needs
 
 add-steps : tie.Need-add-steps
-add-steps c = omega (arith, (c .before .before .before .before .before .before .before .pre .1), (c .before .before .before .step-size .ensures), entry-few (c .before .before .before .before .before .before .before .args .counted .group) (c .before .before .before .before .before .before .before .args .i))
+add-steps c =
+    let pre = c .before .before .before .before .before .before .before .pre in
+    let step-size = c .before .before .before .step-size in
+    let args = c .before .before .before .before .before .before .before .args in
+    omega (arith, (pre .1), (step-size .ensures), entry-few (args .counted .group) (args .i))
 
 returns-2 : tie.Need-returns-2
 returns-2 c =
-    let a = c .before .before .before .before .before .before .before .args in
-    counts-listed (a .s .base) (a .s .value) (a .i) (a .counted) (c .before .before .before .before .before .if1 .left) (c .before .before .advance .result) (c .before .before .before .step-size .result) (c .before .before .advance .ensures) (c .before .before .before .step-size .ensures)
+    let args = c .before .before .before .before .before .before .before .args in
+    let if1 = c .before .before .before .before .before .if1 in
+    let advance = c .before .before .advance in
+    let step-size = c .before .before .before .step-size in
+    counts-listed (args .s .base) (args .s .value) (args .i) (args .counted) (if1 .left) (advance .result) (step-size .result) (advance .ensures)
+    (step-size .ensures)
 
 pub count-sample-spec : {M : Type 1} → statement M
 count-sample-spec =

@@ -27,7 +27,11 @@ sample-at-requires : tie.Need-sample-at-requires Inv-loop μ-loop
 sample-at-requires c κs = ((c .loop-test .taken), (c .before .before .before .before .pre))
 
 count-sample-requires : tie.Need-count-sample-requires Inv-loop μ-loop
-count-sample-requires c κs = ((omega (arith, (c .before .loop-test .taken), (c .before .before .before .before .before .pre .few)), (c .before .before .loop .inv .fits)), (omega (arith, (c .before .before .loop .inv .few), (c .before .before .before .before .before .pre .few), (c .before .loop-test .taken)), omega (arith, (c .before .before .loop .inv .short), (c .before .before .before .before .before .pre .few), (c .before .loop-test .taken))))
+count-sample-requires c κs =
+    let loop-test = c .before .loop-test in
+    let pre = c .before .before .before .before .before .pre in
+    let loop = c .before .before .loop in
+    ((omega (arith, (loop-test .taken), (pre .few)), (loop .inv .fits)), (omega (arith, (loop .inv .few), (pre .few), (loop-test .taken)), omega (arith, (loop .inv .short), (pre .few), (loop-test .taken))))
 
 add-i : tie.Need-add-i Inv-loop μ-loop
 add-i c = search needs
@@ -36,7 +40,15 @@ loop-less : tie.Need-loop-less Inv-loop μ-loop
 loop-less c = search needs
 
 loop-again : tie.Need-loop-again Inv-loop μ-loop
-loop-again c = turn-next (c .before .before .before .loop .inv) (omega (arith, (c .before .before .loop-test .taken), (c .before .before .before .before .before .before .pre .each))) (omega (arith, (c .before .before .loop-test .taken), row-length (c .before .before .before .before .before .before .args .base) (c .before .before .before .before .before .before .args .categories .now))) (c .before .sample-at .result .base) (c .before .sample-at .result .value) (c .before .sample-at .ensures .1) (c .before .sample-at .ensures .0) (c .count-sample .ensures)
+loop-again c =
+    let loop = c .before .before .before .loop in
+    let loop-test = c .before .before .loop-test in
+    let pre = c .before .before .before .before .before .before .pre in
+    let args = c .before .before .before .before .before .before .args in
+    let sample-at = c .before .sample-at in
+    turn-next (loop .inv) (omega (arith, (loop-test .taken), (pre .each)))
+    (omega (arith, (loop-test .taken), row-length (args .base) (args .categories .now))) (sample-at .result .base) (sample-at .result .value)
+    (sample-at .ensures .1) (sample-at .ensures .0) (c .count-sample .ensures)
 
 returns : tie.Need-returns Inv-loop μ-loop
 returns c = let h = turn-done (c .before .loop .inv) (omega (arith, (c .loop-test .left), (c .before .before .before .before .pre .each))) in record { count-is = h .0; steps-are = h .1 }

@@ -10,36 +10,58 @@ use Rattle.listwriter.proofs.put_list.Tie as tie
 
 put-varint-requires : tie.Need-put-varint-requires
 put-varint-requires c κs =
-    let a = c .before .before .before .before .args in
-    (room-0 (length (a .categories .now)) (listed (a .base) (a .anchor .now) (a .categories .now)) (a .output .now) (a .at) (a .count) (c .before .before .before .before .pre .0 .1) (c .before .before .before .before .pre .1), omega (arith, listed-most (a .base) (a .anchor .now) (a .categories .now) (c .before .before .before .before .pre .0 .0), (c .before .before .before .before .pre .0 .1)))
+    let args = c .before .before .before .before .args in
+    let pre = c .before .before .before .before .pre in
+    (room-0 (length (args .categories .now)) (listed (args .base) (args .anchor .now) (args .categories .now)) (args .output .now) (args .at) (args .count) (pre .0 .1) (pre .1), omega (arith, listed-most (args .base) (args .anchor .now) (args .categories .now) (pre .0 .0), (pre .0 .1)))
 
 put-part-requires : tie.Need-put-part-requires
 put-part-requires c κs =
-    let a = c .before .before .before .before .before .before .before .before .args in
-    ((c .before .before .before .before .before .before .before .before .pre .0 .0), room-1 (length (a .categories .now)) (listed (a .base) (a .anchor .now) (a .categories .now)) (a .output .now) (a .at) (a .count) (c .before .before .before .before .before .before .before .before .pre .0 .1) (c .before .before .before .before .before .before .before .before .pre .1) (c .before .before .before .put-varint .ensures))
+    let pre = c .before .before .before .before .before .before .before .before .pre in
+    let args = c .before .before .before .before .before .before .before .before .args in
+    let put-varint = c .before .before .before .put-varint in
+    ((pre .0 .0), room-1 (length (args .categories .now)) (listed (args .base) (args .anchor .now) (args .categories .now)) (args .output .now) (args .at) (args .count) (pre .0 .1) (pre .1) (put-varint .ensures))
 
 put-part-requires-2 : tie.Need-put-part-requires-2
 put-part-requires-2 c κs =
-    let a = c .before .before .before .before .before .before .before .before .before .before .before .before .args in
-    ((c .before .before .before .before .before .before .before .before .before .before .before .before .pre .0 .0), room-2 (length (a .categories .now)) (listed (a .base) (a .anchor .now) (a .categories .now)) (a .output .now) (a .at) (a .count) (c .before .before .before .before .before .before .before .before .before .before .before .before .pre .0 .1) (c .before .before .before .before .before .before .before .before .before .before .before .before .pre .1) (c .before .before .before .before .before .before .before .put-varint .ensures) (c .before .before .before .put-part .ensures))
+    let pre = c .before .before .before .before .before .before .before .before .before .before .before .before .pre in
+    let args = c .before .before .before .before .before .before .before .before .before .before .before .before .args in
+    let put-varint = c .before .before .before .before .before .before .before .put-varint in
+    let put-part = c .before .before .before .put-part in
+    ((pre .0 .0), room-2 (length (args .categories .now)) (listed (args .base) (args .anchor .now) (args .categories .now)) (args .output .now) (args .at) (args .count) (pre .0 .1) (pre .1) (put-varint .ensures) (put-part .ensures))
 
 put-values-requires : tie.Need-put-values-requires
 put-values-requires c κs =
-    let a = c .before .before .before .before .before .before .before .before .before .before .before .before .before .before .before .before .args in
-    ((c .before .before .before .before .before .before .before .before .before .before .before .before .before .before .before .before .pre .0 .0), room-3 (length (a .categories .now)) (listed (a .base) (a .anchor .now) (a .categories .now)) (a .output .now) (a .at) (a .count) (c .before .before .before .before .before .before .before .before .before .before .before .before .before .before .before .before .pre .0 .1) (c .before .before .before .before .before .before .before .before .before .before .before .before .before .before .before .before .pre .1) (c .before .before .before .before .before .before .before .before .before .before .before .put-varint .ensures) (c .before .before .before .before .before .before .before .put-part .ensures) (c .before .before .before .put-part2 .ensures))
+    let pre = c .before .before .before .before .before .before .before .before .before .before .before .before .before .before .before .before .pre in
+    let args = c .before .before .before .before .before .before .before .before .before .before .before .before .before .before .before .before .args in
+    let put-varint = c .before .before .before .before .before .before .before .before .before .before .before .put-varint in
+    let put-part = c .before .before .before .before .before .before .before .put-part in
+    let put-part2 = c .before .before .before .put-part2 in
+    ((pre .0 .0), room-3 (length (args .categories .now)) (listed (args .base) (args .anchor .now) (args .categories .now)) (args .output .now) (args .at) (args .count) (pre .0 .1) (pre .1) (put-varint .ensures) (put-part .ensures) (put-part2 .ensures))
 
 put-part-requires-3 : tie.Need-put-part-requires-3
 put-part-requires-3 c κs =
-    let a = c .before .before .before .before .before .before .before .before .before .before .before .before .before .before .before .before .before .before .before .before .args in
-    ((c .before .before .before .before .before .before .before .before .before .before .before .before .before .before .before .before .before .before .before .before .pre .0 .0), room-4 (length (a .categories .now)) (listed (a .base) (a .anchor .now) (a .categories .now)) (a .output .now) (a .at) (a .count) (c .before .before .before .before .before .before .before .before .before .before .before .before .before .before .before .before .before .before .before .before .pre .0 .1) (c .before .before .before .before .before .before .before .before .before .before .before .before .before .before .before .before .before .before .before .before .pre .1) (c .before .before .before .before .before .before .before .before .before .before .before .before .before .before .before .put-varint .ensures) (c .before .before .before .before .before .before .before .before .before .before .before .put-part .ensures) (c .before .before .before .before .before .before .before .put-part2 .ensures) (c .before .before .before .put-values .ensures))
+    let pre = c .before .before .before .before .before .before .before .before .before .before .before .before .before .before .before .before .before .before .before .before .pre in
+    let args = c .before .before .before .before .before .before .before .before .before .before .before .before .before .before .before .before .before .before .before .before .args in
+    let put-varint = c .before .before .before .before .before .before .before .before .before .before .before .before .before .before .before .put-varint in
+    let put-part = c .before .before .before .before .before .before .before .before .before .before .before .put-part in
+    let put-part2 = c .before .before .before .before .before .before .before .put-part2 in
+    let put-values = c .before .before .before .put-values in
+    ((pre .0 .0), room-4 (length (args .categories .now)) (listed (args .base) (args .anchor .now) (args .categories .now)) (args .output .now) (args .at) (args .count) (pre .0 .1) (pre .1) (put-varint .ensures) (put-part .ensures) (put-part2 .ensures) (put-values .ensures))
 
 same-length : tie.Need-same-length
 same-length c = search needs
 
 returns : tie.Need-returns
 returns c =
-    let a = c .before .before .before .before .before .before .before .before .before .before .before .before .before .before .before .before .before .before .before .before .before .before .before .args in
-    all-written (length (a .categories .now)) (listed (a .base) (a .anchor .now) (a .categories .now)) (a .output .now) (a .at) (a .count) (c .before .before .before .before .before .before .before .before .before .before .before .before .before .before .before .before .before .before .before .before .before .before .before .pre .0 .1) (c .before .before .before .before .before .before .before .before .before .before .before .before .before .before .before .before .before .before .before .before .before .before .before .pre .1) (c .before .before .before .before .before .before .before .before .before .before .before .before .before .before .before .before .before .before .put-varint .ensures) (c .before .before .before .before .before .before .before .before .before .before .before .before .before .before .put-part .ensures) (c .before .before .before .before .before .before .before .before .before .before .put-part2 .ensures) (c .before .before .before .before .before .before .put-values .ensures) (c .before .before .put-part3 .ensures)
+    let args = c .before .before .before .before .before .before .before .before .before .before .before .before .before .before .before .before .before .before .before .before .before .before .before .args in
+    let pre = c .before .before .before .before .before .before .before .before .before .before .before .before .before .before .before .before .before .before .before .before .before .before .before .pre in
+    let put-varint = c .before .before .before .before .before .before .before .before .before .before .before .before .before .before .before .before .before .before .put-varint in
+    let put-part = c .before .before .before .before .before .before .before .before .before .before .before .before .before .before .put-part in
+    let put-part2 = c .before .before .before .before .before .before .before .before .before .before .put-part2 in
+    let put-values = c .before .before .before .before .before .before .put-values in
+    let put-part3 = c .before .before .put-part3 in
+    all-written (length (args .categories .now)) (listed (args .base) (args .anchor .now) (args .categories .now)) (args .output .now) (args .at)
+    (args .count) (pre .0 .1) (pre .1) (put-varint .ensures) (put-part .ensures) (put-part2 .ensures) (put-values .ensures) (put-part3 .ensures)
 
 pub put-list-spec : {M : Type 1} → statement M
 put-list-spec =

@@ -25,8 +25,11 @@ cast-output c = search needs
 
 slice-write-output : tie.Need-slice-write-output
 slice-write-output c =
-    let a = c .before .before .before .before .args in
-    value-room (a .s .base) (a .s .value) (a .packing .scale) (a .packing .byte) (a .packing .at) (a .output .now) (c .before .before .if1 .left) (c .if2 .taken) _ (c .before .before .before .before .pre .1 .1)
+    let args = c .before .before .before .before .args in
+    let if1 = c .before .before .if1 in
+    let pre = c .before .before .before .before .pre in
+    value-room (args .s .base) (args .s .value) (args .packing .scale) (args .packing .byte) (args .packing .at) (args .output .now) (if1 .left)
+    (c .if2 .taken) _ (pre .1 .1)
 
 add-t9 : tie.Need-add-t9
 add-t9 c = search needs
@@ -36,26 +39,37 @@ same-length c = search needs
 
 returns-2 : tie.Need-returns-2
 returns-2 c =
-    let a = c .before .before .before .before .args in
-    value-full (a .s .base) (a .s .value) (a .packing .scale) (a .packing .byte) (a .packing .at) (a .output .now) (c .before .before .if1 .left) (c .if2 .taken)
+    let args = c .before .before .before .before .args in
+    let if1 = c .before .before .if1 in
+    value-full (args .s .base) (args .s .value) (args .packing .scale) (args .packing .byte) (args .packing .at) (args .output .now) (if1 .left)
+    (c .if2 .taken)
 
 mul-t13 : tie.Need-mul-t13
-mul-t13 c = omega (arith, packing-small (c .before .before .before .before .args .packing .scale) (c .before .before .before .before .args .packing .byte) (c .before .before .before .before .pre .1 .0))
+mul-t13 c =
+    let args = c .before .before .before .before .args in
+    let pre = c .before .before .before .before .pre in
+    omega (arith, packing-small (args .packing .scale) (args .packing .byte) (pre .1 .0))
 
 mul-t14 : tie.Need-mul-t14
 mul-t14 c =
-    let a = c .before .before .before .before .args in
-    omega (arith, value-fits (a .packing .scale) (a .packing .byte) (a .s .value) (c .before .before .before .before .pre .1 .0) (c .before .before .before .before .pre .0), packing-small (a .packing .scale) (a .packing .byte) (c .before .before .before .before .pre .1 .0))
+    let args = c .before .before .before .before .args in
+    let pre = c .before .before .before .before .pre in
+    omega
+    (arith, value-fits (args .packing .scale) (args .packing .byte) (args .s .value) (pre .1 .0) (pre .0), packing-small (args .packing .scale) (args .packing .byte) (pre .1 .0))
 
 add-t15 : tie.Need-add-t15
 add-t15 c =
-    let a = c .before .before .before .before .args in
-    omega (arith, value-fits (a .packing .scale) (a .packing .byte) (a .s .value) (c .before .before .before .before .pre .1 .0) (c .before .before .before .before .pre .0), packing-small (a .packing .scale) (a .packing .byte) (c .before .before .before .before .pre .1 .0))
+    let args = c .before .before .before .before .args in
+    let pre = c .before .before .before .before .pre in
+    omega
+    (arith, value-fits (args .packing .scale) (args .packing .byte) (args .s .value) (pre .1 .0) (pre .0), packing-small (args .packing .scale) (args .packing .byte) (pre .1 .0))
 
 returns-3 : tie.Need-returns-3
 returns-3 c =
-    let a = c .before .before .before .before .args in
-    value-more (a .s .base) (a .s .value) (a .packing .scale) (a .packing .byte) (a .packing .at) (a .output .now) (c .before .before .if1 .left) (c .if2 .left)
+    let args = c .before .before .before .before .args in
+    let if1 = c .before .before .if1 in
+    value-more (args .s .base) (args .s .value) (args .packing .scale) (args .packing .byte) (args .packing .at) (args .output .now) (if1 .left)
+    (c .if2 .left)
 
 pub put-value-spec : {M : Type 1} → statement M
 put-value-spec =

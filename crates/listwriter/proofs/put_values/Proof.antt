@@ -29,8 +29,12 @@ sample-at-requires c κs = ((c .loop-test .taken), (c .before .before .before .b
 
 put-value-requires : tie.Need-put-value-requires Inv-loop μ-loop
 put-value-requires c κs =
-    let a = c .before .before .before .before .before .before .before .args in
-    (rw (c .before .sample-at .ensures .0) (below-at 4 (row (a .base) (a .categories .now)) (c .before .before .before .loop .i) (omega arith) (row-below (a .base) (a .categories .now) (c .before .before .before .before .before .before .before .pre .0 .small))), ((c .before .before .before .loop .inv .fits), omega (arith, turn-room (c .before .before .before .loop .inv) (omega (arith, (c .before .before .loop-test .taken), (c .before .before .before .before .before .before .before .pre .0 .each))) (omega (arith, (c .before .before .loop-test .taken), row-length (a .base) (a .categories .now))) (c .before .sample-at .result .base) (c .before .sample-at .result .value) (c .before .sample-at .ensures .1) (c .before .sample-at .ensures .0), (c .before .before .before .loop .inv .keeps), (c .before .before .before .before .before .before .before .pre .1))))
+    let sample-at = c .before .sample-at in
+    let args = c .before .before .before .before .before .before .before .args in
+    let loop = c .before .before .before .loop in
+    let pre = c .before .before .before .before .before .before .before .pre in
+    let loop-test = c .before .before .loop-test in
+    (rw (sample-at .ensures .0) (below-at 4 (row (args .base) (args .categories .now)) (loop .i) (omega arith) (row-below (args .base) (args .categories .now) (pre .0 .small))), ((loop .inv .fits), omega (arith, turn-room (loop .inv) (omega (arith, (loop-test .taken), (pre .0 .each))) (omega (arith, (loop-test .taken), row-length (args .base) (args .categories .now))) (sample-at .result .base) (sample-at .result .value) (sample-at .ensures .1) (sample-at .ensures .0), (loop .inv .keeps), (pre .1))))
 
 add-i : tie.Need-add-i Inv-loop μ-loop
 add-i c = search needs
@@ -40,8 +44,17 @@ loop-less c = search needs
 
 loop-again : tie.Need-loop-again Inv-loop μ-loop
 loop-again c =
-    let a = c .before .before .before .before .before .before .before .before .before .before .args in
-    turn-next (c .before .before .before .before .before .before .loop .inv) (omega (arith, (c .before .before .before .before .before .loop-test .taken), (c .before .before .before .before .before .before .before .before .before .before .pre .0 .each))) (omega (arith, (c .before .before .before .before .before .loop-test .taken), row-length (a .base) (a .categories .now))) (c .before .before .before .before .sample-at .result .base) (c .before .before .before .before .sample-at .result .value) (c .before .before .before .before .sample-at .ensures .1) (c .before .before .before .before .sample-at .ensures .0) (rw (c .before .before .before .before .sample-at .ensures .0) (below-at 4 (row (a .base) (a .categories .now)) (c .before .before .before .before .before .before .loop .i) (omega arith) (row-below (a .base) (a .categories .now) (c .before .before .before .before .before .before .before .before .before .before .pre .0 .small)))) (c .before .before .put-value .ensures)
+    let loop = c .before .before .before .before .before .before .loop in
+    let loop-test = c .before .before .before .before .before .loop-test in
+    let pre = c .before .before .before .before .before .before .before .before .before .before .pre in
+    let args = c .before .before .before .before .before .before .before .before .before .before .args in
+    let sample-at = c .before .before .before .before .sample-at in
+    let put-value = c .before .before .put-value in
+    turn-next (loop .inv) (omega (arith, (loop-test .taken), (pre .0 .each)))
+    (omega (arith, (loop-test .taken), row-length (args .base) (args .categories .now))) (sample-at .result .base) (sample-at .result .value)
+    (sample-at .ensures .1) (sample-at .ensures .0)
+    (rw (sample-at .ensures .0) (below-at 4 (row (args .base) (args .categories .now)) (loop .i) (omega arith) (row-below (args .base) (args .categories .now) (pre .0 .small))))
+    (put-value .ensures)
 
 same-length : tie.Need-same-length Inv-loop μ-loop
 same-length c = (c .before .before .before .loop .inv .keeps)
@@ -50,7 +63,9 @@ returns : tie.Need-returns Inv-loop μ-loop
 returns c = let h = turn-even (c .before .before .before .loop .inv) (omega (arith, (c .before .before .loop-test .left), (c .before .before .before .before .before .before .before .pre .0 .each))) (c .if1 .taken) in record { place = h .1; same = h .0 }
 
 cast-output : tie.Need-cast-output Inv-loop μ-loop
-cast-output c = omega (arith, (c .before .before .before .loop .inv .fits .below), packing-small (c .before .before .before .loop .packing .scale) (c .before .before .before .loop .packing .byte) (c .before .before .before .loop .inv .fits))
+cast-output c =
+    let loop = c .before .before .before .loop in
+    omega (arith, (loop .inv .fits .below), packing-small (loop .packing .scale) (loop .packing .byte) (loop .inv .fits))
 
 slice-write-output : tie.Need-slice-write-output Inv-loop μ-loop
 slice-write-output c = let h = turn-odd (c .before .before .before .loop .inv) (omega (arith, (c .before .before .loop-test .left), (c .before .before .before .before .before .before .before .pre .0 .each))) (c .if1 .left) in omega (arith, h .1, (c .before .before .before .loop .inv .keeps), (c .before .before .before .before .before .before .before .pre .1))

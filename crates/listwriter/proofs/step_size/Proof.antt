@@ -15,7 +15,10 @@ varint-size-requires : tie.Need-varint-size-requires
 varint-size-requires c κs = search needs
 
 returns-2 : tie.Need-returns-2
-returns-2 c = size-step (c .before .before .before .before .args .group) (c .before .before .before .before .args .sample) (c .varint-size .result) (c .before .before .if1 .left) (c .varint-size .ensures)
+returns-2 c =
+    let args = c .before .before .before .before .args in
+    let if1 = c .before .before .if1 in
+    size-step (args .group) (args .sample) (c .varint-size .result) (if1 .left) (c .varint-size .ensures)
 
 pub step-size-spec : {M : Type 1} → statement M
 step-size-spec = tie.close (tie.spec returns sub-varint-size varint-size-requires returns-2)

@@ -21,7 +21,10 @@ sub-i : tie.Need-sub-i Inv-loop μ-loop
 sub-i c = search needs
 
 mul-number : tie.Need-mul-number Inv-loop μ-loop
-mul-number c = let a = c .before .before .args in let w = c .before .loop in omega (arith, room (now (a .file)) (a .at) (a .width) (w .i) (w .number) (omega arith) (omega arith) (w .inv))
+mul-number c =
+    let loop = c .before .loop in
+    let args = c .before .before .args in
+    let w = loop in omega (arith, room (now (args .file)) (args .at) (args .width) (w .i) (w .number) (omega arith) (omega arith) (w .inv))
 
 add-number : tie.Need-add-number Inv-loop μ-loop
 add-number c = let a = c .before .before .args in let w = c .before .loop in omega (arith, w .inv .inside)
@@ -33,13 +36,21 @@ cast-number : tie.Need-cast-number Inv-loop μ-loop
 cast-number c = let a = c .before .before .before .args in let w = c .before .before .loop in omega (arith, c .shared-slice-known .given (a .at + (w .i - 1)))
 
 add-number-2 : tie.Need-add-number-2 Inv-loop μ-loop
-add-number-2 c = let a = c .before .before .before .args in let w = c .before .before .loop in omega (arith, c .shared-slice-known .given (a .at + (w .i - 1)), room (now (a .file)) (a .at) (a .width) (w .i) (w .number) (omega arith) (omega arith) (w .inv))
+add-number-2 c =
+    let loop = c .before .before .loop in
+    let args = c .before .before .before .args in
+    let w = loop in omega
+    (arith, c .shared-slice-known .given (args .at + (w .i - 1)), room (now (args .file)) (args .at) (args .width) (w .i) (w .number) (omega arith) (omega arith) (w .inv))
 
 loop-less : tie.Need-loop-less Inv-loop μ-loop
 loop-less c = search needs
 
 loop-again : tie.Need-loop-again Inv-loop μ-loop
-loop-again c = let a = c .before .before .before .args in let w = c .before .before .loop in goes-on (now (a .file)) (a .at) (a .width) (w .i) (w .number) (omega arith) (omega (arith, c .shared-slice-known .given (a .at + (w .i - 1)))) (w .inv)
+loop-again c =
+    let loop = c .before .before .loop in
+    let args = c .before .before .before .args in
+    let w = loop in goes-on (now (args .file)) (args .at) (args .width) (w .i) (w .number) (omega arith)
+    (omega (arith, c .shared-slice-known .given (args .at + (w .i - 1)))) (w .inv)
 
 returns : tie.Need-returns Inv-loop μ-loop
 returns c = let a = c .before .before .args in let w = c .before .loop in finished (now (a .file)) (a .at) (a .width) (w .i) (w .number) (omega arith) (w .inv)

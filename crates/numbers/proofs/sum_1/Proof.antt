@@ -34,12 +34,16 @@ loop-less c = omega arith
 
 loop-again : tie.Need-loop-again Inv-loop μ-loop
 loop-again c =
-    let a = c .before .before .before .before .args in let w = c .before .before .loop in
-    let e : a .at + 1 * w .i ≡ a .at + w .i = omega arith in
-    goes-on (now (a .file)) (a .at) (a .n) 1 255 (w .i) (w .total) (c .number-1 .result) (omega arith) (rw e (c .number-1 .ensures .0)) (c .number-1 .ensures .1) (w .inv)
+    let loop = c .before .before .loop in
+    let args = c .before .before .before .before .args in
+    let w = loop in let e : args .at + 1 * w .i ≡ args .at + w .i = omega arith in goes-on (now (args .file)) (args .at) (args .n) 1 255 (w .i) (w .total)
+    (c .number-1 .result) (omega arith) (rw e (c .number-1 .ensures .0)) (c .number-1 .ensures .1) (w .inv)
 
 returns : tie.Need-returns Inv-loop μ-loop
-returns c = let a = c .before .before .before .args in let w = c .before .loop in finished (now (a .file)) (a .at) (a .n) 1 255 (w .i) (w .total) (omega arith) (omega arith) (w .inv)
+returns c =
+    let loop = c .before .loop in
+    let args = c .before .before .before .args in
+    let w = loop in finished (now (args .file)) (args .at) (args .n) 1 255 (w .i) (w .total) (omega arith) (omega arith) (w .inv)
 
 pub sum-1-spec : {M : Type 1} → statement M
 sum-1-spec =

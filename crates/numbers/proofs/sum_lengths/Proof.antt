@@ -23,16 +23,28 @@ cast-result-2 : tie.Need-cast-result-2
 cast-result-2 c = search needs
 
 returns-2 : tie.Need-returns-2
-returns-2 c = let a = c .before .before .before .before .args in sum-of-width (now (a .file)) (a .at) (a .n) (a .width) 2 (c .sum-2 .result) (c .before .if2 .taken) (c .sum-2 .ensures)
+returns-2 c =
+    let args = c .before .before .before .before .args in
+    let if2 = c .before .if2 in
+    sum-of-width (now (args .file)) (args .at) (args .n) (args .width) 2 (c .sum-2 .result) (if2 .taken) (c .sum-2 .ensures)
 
 sum-3-requires : tie.Need-sum-3-requires
-sum-3-requires c κs = let a = c .before .before .before .before .args in (omega arith, of-width (now (a .file)) (a .at) (a .n) (a .width) 3 (c .if3 .taken) (c .before .before .before .before .pre .3))
+sum-3-requires c κs =
+    let args = c .before .before .before .before .args in
+    let pre = c .before .before .before .before .pre in
+    (omega arith, of-width (now (args .file)) (args .at) (args .n) (args .width) 3 (c .if3 .taken) (pre .3))
 
 returns-3 : tie.Need-returns-3
-returns-3 c = let a = c .before .before .before .before .before .args in sum-of-width (now (a .file)) (a .at) (a .n) (a .width) 3 (c .sum-3 .result) (c .before .if3 .taken) (c .sum-3 .ensures)
+returns-3 c =
+    let args = c .before .before .before .before .before .args in
+    let if3 = c .before .if3 in
+    sum-of-width (now (args .file)) (args .at) (args .n) (args .width) 3 (c .sum-3 .result) (if3 .taken) (c .sum-3 .ensures)
 
 sum-4-requires : tie.Need-sum-4-requires
-sum-4-requires c κs = let a = c .before .before .before .before .args in (omega arith, of-width (now (a .file)) (a .at) (a .n) (a .width) 4 (omega arith) (c .before .before .before .before .pre .3))
+sum-4-requires c κs =
+    let args = c .before .before .before .before .args in
+    let pre = c .before .before .before .before .pre in
+    (omega arith, of-width (now (args .file)) (args .at) (args .n) (args .width) 4 (omega arith) (pre .3))
 
 returns-4 : tie.Need-returns-4
 returns-4 c = let a = c .before .before .before .before .before .args in sum-of-width (now (a .file)) (a .at) (a .n) (a .width) 4 (c .sum-4 .result) (omega arith) (c .sum-4 .ensures)

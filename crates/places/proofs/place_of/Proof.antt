@@ -1,50 +1,69 @@
 -- `places::place_of` meets its contract.
 -- Assumes nothing.
-use Rattle.places.proofs.AcceptedLaws.{long, most, samples-most, plain-place, plain-small}
-use Rattle.blocks.proofs.Sizes.{all-bytes}
-use denote.Ref.{now}
 use native.Mathlib.Omega.{arith}
+use Rattle.blocks.proofs.Sizes.{all-bytes}
+use Rattle.extents.proofs.AcceptedLaws.{long, few-variants, few-samples}
+use Rattle.places.proofs.AcceptedLaws.{below-in, below, end-inside, place-is}
 use borrow.Author.Needs.{needs}
 use Rattle.places.proofs.place_of.Statement.{statement}
 use Rattle.places.proofs.place_of.Tie as tie
 
 fields-at-requires : tie.Need-fields-at-requires
-fields-at-requires c κs = long (now (c .before .args .file)) (c .before .pre .layout) (c .before .pre .accepted)
+fields-at-requires c κs =
+    let h = c .before .pre in
+    long (c .before .args .file .now) (h .layout) (h .accepted)
 
-add-size : tie.Need-add-size
-add-size c = omega (arith, samples-most (now (c .before .before .before .before .before .args .file)) (c .before .before .before .before .before .args .v) (c .before .before .before .before .before .pre) (all-bytes (now (c .before .before .before .before .before .args .file)) (λ i. c .before .before .before .before .shared-slice-known .given i .fits)) (c .before .before .before .fields-at .result) (c .before .before .before .fields-at .ensures))
+start-of-requires : tie.Need-start-of-requires
+start-of-requires c κs = search needs
 
-header-end-requires : tie.Need-header-end-requires
-header-end-requires c κs = most (now (c .before .before .before .before .before .args .file)) (c .before .before .before .before .before .args .v) (c .before .before .before .before .before .pre) (all-bytes (now (c .before .before .before .before .before .args .file)) (λ i. c .before .before .before .before .shared-slice-known .given i .fits)) (c .before .before .before .fields-at .result) (c .before .before .before .fields-at .ensures)
+size-of-requires : tie.Need-size-of-requires
+size-of-requires c κs =
+    let a = c .before .before .before .args in
+    let y = all-bytes (a .file .now) (λ i. c .before .before .shared-slice-known .given i .fits) in
+    let h = c .before .before .before .pre in
+    let f = c .before .fields-at in (
+      few-variants (a .file .now) y (h .layout) (h .accepted) (f .result) (f .ensures),
+      below (a .file .now) y (h .layout) (h .accepted) (a .v) (h .below) (f .result) (f .ensures),
+      few-samples (a .file .now) y (h .layout) (h .accepted) (f .result) (f .ensures),
+    )
 
-mul-start : tie.Need-mul-start
-mul-start c = omega (arith, plain-small (now (c .before .before .before .before .before .before .before .args .file)) (c .before .before .before .before .before .before .before .args .v) (c .before .before .before .before .before .before .before .pre) (all-bytes (now (c .before .before .before .before .before .before .before .args .file)) (λ i. c .before .before .before .before .before .before .shared-slice-known .given i .fits)) (c .before .before .before .before .before .fields-at .result) (c .before .before .before .before .before .fields-at .ensures) (c .before .before .before .if1 .taken))
+add-t6 : tie.Need-add-t6
+add-t6 c =
+    let a = c .before .before .before .before .args in
+    let y = all-bytes (a .file .now) (λ i. c .before .before .before .shared-slice-known .given i .fits) in
+    let h = c .before .before .before .before .pre in
+    let f = c .before .before .fields-at in
+    omega (
+      arith,
+      end-inside (a .file .now) y (h .layout) (h .accepted) (a .v) (h .below) (f .result) (f .ensures)
+          (c .before .start-of .result) (c .size-of .result) (c .before .start-of .ensures (h .layout) (h .accepted)) (c .size-of .ensures),
+    )
 
-add-start : tie.Need-add-start
-add-start c = omega (arith, plain-small (now (c .before .before .before .before .before .before .before .args .file)) (c .before .before .before .before .before .before .before .args .v) (c .before .before .before .before .before .before .before .pre) (all-bytes (now (c .before .before .before .before .before .before .before .args .file)) (λ i. c .before .before .before .before .before .before .shared-slice-known .given i .fits)) (c .before .before .before .before .before .fields-at .result) (c .before .before .before .before .before .fields-at .ensures) (c .before .before .before .if1 .taken), c .before .header-end .ensures .1)
-
-add-t7 : tie.Need-add-t7
-add-t7 c = omega (arith, plain-small (now (c .before .before .before .before .before .before .before .args .file)) (c .before .before .before .before .before .before .before .args .v) (c .before .before .before .before .before .before .before .pre) (all-bytes (now (c .before .before .before .before .before .before .before .args .file)) (λ i. c .before .before .before .before .before .before .shared-slice-known .given i .fits)) (c .before .before .before .before .before .fields-at .result) (c .before .before .before .before .before .fields-at .ensures) (c .before .before .before .if1 .taken), c .before .header-end .ensures .1, samples-most (now (c .before .before .before .before .before .before .before .args .file)) (c .before .before .before .before .before .before .before .args .v) (c .before .before .before .before .before .before .before .pre) (all-bytes (now (c .before .before .before .before .before .before .before .args .file)) (λ i. c .before .before .before .before .before .before .shared-slice-known .given i .fits)) (c .before .before .before .before .before .fields-at .result) (c .before .before .before .before .before .fields-at .ensures))
+kind-of-requires : tie.Need-kind-of-requires
+kind-of-requires c κs =
+    let a = c .before .before .before .before .args in
+    let y = all-bytes (a .file .now) (λ i. c .before .before .before .shared-slice-known .given i .fits) in
+    let h = c .before .before .before .before .pre in
+    let f = c .before .before .fields-at in (
+      few-variants (a .file .now) y (h .layout) (h .accepted) (f .result) (f .ensures),
+      below (a .file .now) y (h .layout) (h .accepted) (a .v) (h .below) (f .result) (f .ensures),
+    )
 
 returns : tie.Need-returns
-returns c = plain-place (now (c .before .before .before .before .before .before .before .args .file)) (c .before .before .before .before .before .before .before .args .v) (c .before .before .before .before .before .before .before .pre) (all-bytes (now (c .before .before .before .before .before .before .before .args .file)) (λ i. c .before .before .before .before .before .before .shared-slice-known .given i .fits)) (c .before .before .before .before .before .fields-at .result) (c .before .before .before .before .before .fields-at .ensures) (c .before .before .before .if1 .taken) (c .before .header-end .result) (c .before .header-end .ensures .0)
-
-place-in-block-requires : tie.Need-place-in-block-requires
-place-in-block-requires c κs = search needs
-
-returns-2 : tie.Need-returns-2
-returns-2 c = search needs
+returns c =
+    let a = c .before .before .before .before .before .args in
+    let y = all-bytes (a .file .now) (λ i. c .before .before .before .before .shared-slice-known .given i .fits) in
+    let f = c .before .before .before .fields-at in
+    λ l q. place-is (a .file .now) y l q (a .v) (below-in (a .file .now) (a .v) (c .before .before .before .before .before .pre) l q) (f .result) (f .ensures)
+    (c .before .before .start-of .result) (c .before .size-of .result) (c .before .before .start-of .ensures l q) (c .before .size-of .ensures) (c .kind-of .result) (c .kind-of .ensures)
 
 pub place-of-spec : {M : Type 1} → statement M
 place-of-spec =
     tie.close
     (tie.spec
     fields-at-requires
-    add-size
-    header-end-requires
-    mul-start
-    add-start
-    add-t7
-    returns
-    place-in-block-requires
-    returns-2)
+    start-of-requires
+    size-of-requires
+    add-t6
+    kind-of-requires
+    returns)

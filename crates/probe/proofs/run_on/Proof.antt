@@ -29,24 +29,24 @@ slice-aggregate-run c =
 
 slice-aggregate-run-2 : tie.Need-slice-aggregate-run-2
 slice-aggregate-run-2 c =
-    let a = c .before .before .before .before .before .before .before .before .before .before .before .args in
-    sym (length-take-le (a .c .second) (a .second .now) (omega arith))
+    let args = c .before .before .before .before .before .before .before .before .before .before .before .args in
+    sym (length-take-le (args .c .second) (args .second .now) (omega arith))
 
 slice-relend-prefix-run-2 : tie.Need-slice-relend-prefix-run-2
 slice-relend-prefix-run-2 c = search needs
 
 slice-aggregate-run-3 : tie.Need-slice-aggregate-run-3
 slice-aggregate-run-3 c =
-    let a = c .before .before .before .before .before .before .before .before .before .before .before .before .args in
-    sym (length-take-le (a .c .output) (a .output .now) (omega arith))
+    let args = c .before .before .before .before .before .before .before .before .before .before .before .before .args in
+    sym (length-take-le (args .c .output) (args .output .now) (omega arith))
 
 slice-relend-prefix-run-3 : tie.Need-slice-relend-prefix-run-3
 slice-relend-prefix-run-3 c = search needs
 
 slice-aggregate-run-4 : tie.Need-slice-aggregate-run-4
 slice-aggregate-run-4 c =
-    let a = c .before .before .before .before .before .before .before .before .before .before .before .before .before .args in
-    sym (length-take-le (a .c .work) (a .work .now) (omega arith))
+    let args = c .before .before .before .before .before .before .before .before .before .before .before .before .before .args in
+    sym (length-take-le (args .c .work) (args .work .now) (omega arith))
 
 run-requires : tie.Need-run-requires
 run-requires c κs = search needs

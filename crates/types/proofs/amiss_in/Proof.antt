@@ -16,7 +16,12 @@ larger-requires : tie.Need-larger-requires
 larger-requires c κs = search needs
 
 returns : tie.Need-returns
-returns c = λ z. let a = c .before .before .before .before .args in half-fine (a .byte) (a .half) (c .before .before .before .if1 .taken) (omega arith) (c .before .before .amiss .ensures (omega arith)) (c .before .amiss2 .ensures (omega arith))
+returns c =
+    let args = c .before .before .before .before .args in
+    let if1 = c .before .before .before .if1 in
+    let amiss = c .before .before .amiss in
+    let amiss2 = c .before .amiss2 in
+    λ z. let a = args in half-fine (a .byte) (a .half) (if1 .taken) (omega arith) (amiss .ensures (omega arith)) (amiss2 .ensures (omega arith))
 
 amiss-requires-3 : tie.Need-amiss-requires-3
 amiss-requires-3 c κs = search needs

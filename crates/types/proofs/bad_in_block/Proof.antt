@@ -20,7 +20,12 @@ type-leans-requires : tie.Need-type-leans-requires
 type-leans-requires c κs = search needs
 
 returns : tie.Need-returns
-returns c = let a = c .before .before .before .before .args in first-bad (now (a .file)) (a .at) (a .n) (c .before .before .type-at .result) (pick (a .half) four eight) (omega arith) (c .before .before .type-at .ensures) (sym (c .before .type-leans .ensures) ∙ c .if1 .taken)
+returns c =
+    let args = c .before .before .before .before .args in
+    let type-at = c .before .before .type-at in
+    let type-leans = c .before .type-leans in
+    first-bad (now (args .file)) (args .at) (args .n) (type-at .result) (pick (args .half) four eight) (omega arith) (type-at .ensures)
+    (sym (type-leans .ensures) ∙ c .if1 .taken)
 
 types-size-requires : tie.Need-types-size-requires
 types-size-requires c κs = search needs
@@ -30,9 +35,16 @@ none-amiss-requires c κs = search needs
 
 returns-2 : tie.Need-returns-2
 returns-2 c =
-    let a = c .before .before .before .before .before .before .before .args in let f = c .before .before .before in
-    none-bad (now (a .file)) (a .at) (a .n) (c .before .before .before .before .before .type-at .result) (pick (a .half) four eight) (c .before .before .before .before .before .type-at .ensures) (sym (c .before .before .before .before .type-leans .ensures) ∙ c .before .before .before .if1 .left)
-    (subst (λ (z : ℕ). FineBytes (now (a .file)) (a .at) z (pick (a .half) four eight)) (c .before .before .types-size .ensures) (c .before .none-amiss .ensures (c .if2 .taken)))
+    let before = c .before .before .before in
+    let args = c .before .before .before .before .before .before .before .args in
+    let type-at = c .before .before .before .before .before .type-at in
+    let type-leans = c .before .before .before .before .type-leans in
+    let if1 = c .before .before .before .if1 in
+    let types-size = c .before .before .types-size in
+    let none-amiss = c .before .none-amiss in
+    let f = before in none-bad (now (args .file)) (args .at) (args .n) (type-at .result) (pick (args .half) four eight) (type-at .ensures)
+    (sym (type-leans .ensures) ∙ if1 .left)
+    (subst (λ (z : ℕ). FineBytes (now (args .file)) (args .at) z (pick (args .half) four eight)) (types-size .ensures) (none-amiss .ensures (c .if2 .taken)))
 
 scan-requires : tie.Need-scan-requires
 scan-requires c κs = search needs

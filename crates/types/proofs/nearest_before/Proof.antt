@@ -26,19 +26,35 @@ sub-k : tie.Need-sub-k Inv-loop μ-loop
 sub-k c = search needs
 
 type-at-requires : tie.Need-type-at-requires Inv-loop μ-loop
-type-at-requires c κs = let a = c .before .before .before .args in let w = c .before .loop in stands (now (a .file)) (a .at) (a .i .0) (pick (a .half) four eight) (w .k - 1) (c .before .before .before .pre) (omega (arith, w .inv .inside))
+type-at-requires c κs =
+    let loop = c .before .loop in
+    let args = c .before .before .before .args in
+    let pre = c .before .before .before .pre in
+    let w = loop in stands (now (args .file)) (args .at) (args .i .0) (pick (args .half) four eight) (w .k - 1) pre (omega (arith, w .inv .inside))
 
 type-leans-requires : tie.Need-type-leans-requires Inv-loop μ-loop
 type-leans-requires c κs = search needs
 
 returns : tie.Need-returns Inv-loop μ-loop
-returns c = let a = c .before .before .before .before .before .before .args in let w = c .before .before .before .before .loop in stops (now (a .file)) (a .at) (a .i .0) (pick (a .half) four eight) (w .k) (c .before .before .type-at .result) (c .before .type-leans .result) (omega arith) (c .before .before .type-at .ensures) (c .before .type-leans .ensures) (w .inv) (not-true (c .before .type-leans .result) (c .if1 .taken))
+returns c =
+    let loop = c .before .before .before .before .loop in
+    let args = c .before .before .before .before .before .before .args in
+    let type-at = c .before .before .type-at in
+    let type-leans = c .before .type-leans in
+    let w = loop in stops (now (args .file)) (args .at) (args .i .0) (pick (args .half) four eight) (w .k) (type-at .result) (type-leans .result)
+    (omega arith) (type-at .ensures) (type-leans .ensures) (w .inv) (not-true (type-leans .result) (c .if1 .taken))
 
 loop-less : tie.Need-loop-less Inv-loop μ-loop
 loop-less c = search needs
 
 loop-again : tie.Need-loop-again Inv-loop μ-loop
-loop-again c = let a = c .before .before .before .before .before .before .args in let w = c .before .before .before .before .loop in goes-on (now (a .file)) (a .at) (a .i .0) (pick (a .half) four eight) (w .k) (c .before .before .type-at .result) (c .before .type-leans .result) (omega arith) (c .before .before .type-at .ensures) (c .before .type-leans .ensures) (w .inv) (not-false (c .before .type-leans .result) (c .if1 .left))
+loop-again c =
+    let loop = c .before .before .before .before .loop in
+    let args = c .before .before .before .before .before .before .args in
+    let type-at = c .before .before .type-at in
+    let type-leans = c .before .type-leans in
+    let w = loop in goes-on (now (args .file)) (args .at) (args .i .0) (pick (args .half) four eight) (w .k) (type-at .result) (type-leans .result)
+    (omega arith) (type-at .ensures) (type-leans .ensures) (w .inv) (not-false (type-leans .result) (c .if1 .left))
 
 returns-2 : tie.Need-returns-2 Inv-loop μ-loop
 returns-2 c = let a = c .before .before .before .args in let w = c .before .loop in ends (now (a .file)) (a .at) (a .i .0) (pick (a .half) four eight) (w .k) (omega arith) (w .inv)

@@ -39,10 +39,18 @@ loop-less : tie.Need-loop-less Inv-loop μ-loop
 loop-less c = omega arith
 
 loop-again : tie.Need-loop-again Inv-loop μ-loop
-loop-again c = let a = c .before .before .before .before .before .before .args in let w = c .before .before .before .before .loop in goes-on (now (a .file)) (a .at) (a .size) (pick (a .half) four eight) (w .worst) (w .k) (c .before .amiss-in .result) (c .larger .result) (omega arith) (c .before .amiss-in .ensures) (c .larger .ensures .0) (c .larger .ensures .1) (w .inv)
+loop-again c =
+    let loop = c .before .before .before .before .loop in
+    let args = c .before .before .before .before .before .before .args in
+    let amiss-in = c .before .amiss-in in
+    let w = loop in goes-on (now (args .file)) (args .at) (args .size) (pick (args .half) four eight) (w .worst) (w .k) (amiss-in .result)
+    (c .larger .result) (omega arith) (amiss-in .ensures) (c .larger .ensures .0) (c .larger .ensures .1) (w .inv)
 
 returns : tie.Need-returns Inv-loop μ-loop
-returns c = λ t. let a = c .before .before .before .args in let w = c .before .loop in ends (now (a .file)) (a .at) (a .size) (pick (a .half) four eight) (w .worst) (w .k) (omega arith) (w .inv) (eqb-true (w .worst) 0 t)
+returns c =
+    let args = c .before .before .before .args in
+    let loop = c .before .loop in
+    λ t. let a = args in let w = loop in ends (now (a .file)) (a .at) (a .size) (pick (a .half) four eight) (w .worst) (w .k) (omega arith) (w .inv) (eqb-true (w .worst) 0 t)
 
 pub none-amiss-spec : {M : Type 1} → statement M
 none-amiss-spec =

@@ -22,13 +22,23 @@ loop-holds : tie.Need-loop-holds Inv-loop μ-loop
 loop-holds c = let a = c .before .args in starts (now (a .file)) (a .at) (a .n) (pick (a .half) four eight)
 
 type-at-requires : tie.Need-type-at-requires Inv-loop μ-loop
-type-at-requires c κs = let a = c .before .before .before .args in let w = c .before .loop in stands (now (a .file)) (a .at) (a .n) (pick (a .half) four eight) (w .i) (c .before .before .before .pre) (omega arith)
+type-at-requires c κs =
+    let loop = c .before .loop in
+    let args = c .before .before .before .args in
+    let pre = c .before .before .before .pre in
+    let w = loop in stands (now (args .file)) (args .at) (args .n) (pick (args .half) four eight) (w .i) pre (omega arith)
 
 type-allowed-requires : tie.Need-type-allowed-requires Inv-loop μ-loop
 type-allowed-requires c κs = search needs
 
 returns : tie.Need-returns Inv-loop μ-loop
-returns c = let a = c .before .before .before .before .before .before .args in let w = c .before .before .before .before .loop in stops (now (a .file)) (a .at) (a .n) (pick (a .half) four eight) (w .i) (c .before .before .type-at .result) (c .before .type-allowed .result) (omega arith) (c .before .before .type-at .ensures) (c .before .type-allowed .ensures) (w .inv) (not-true (c .before .type-allowed .result) (c .if1 .taken))
+returns c =
+    let loop = c .before .before .before .before .loop in
+    let args = c .before .before .before .before .before .before .args in
+    let type-at = c .before .before .type-at in
+    let type-allowed = c .before .type-allowed in
+    let w = loop in stops (now (args .file)) (args .at) (args .n) (pick (args .half) four eight) (w .i) (type-at .result) (type-allowed .result)
+    (omega arith) (type-at .ensures) (type-allowed .ensures) (w .inv) (not-true (type-allowed .result) (c .if1 .taken))
 
 add-i : tie.Need-add-i Inv-loop μ-loop
 add-i c = search needs
@@ -37,7 +47,13 @@ loop-less : tie.Need-loop-less Inv-loop μ-loop
 loop-less c = search needs
 
 loop-again : tie.Need-loop-again Inv-loop μ-loop
-loop-again c = let a = c .before .before .before .before .before .before .args in let w = c .before .before .before .before .loop in goes-on (now (a .file)) (a .at) (a .n) (pick (a .half) four eight) (w .i) (c .before .before .type-at .result) (c .before .type-allowed .result) (omega arith) (c .before .before .type-at .ensures) (c .before .type-allowed .ensures) (w .inv) (not-false (c .before .type-allowed .result) (c .if1 .left))
+loop-again c =
+    let loop = c .before .before .before .before .loop in
+    let args = c .before .before .before .before .before .before .args in
+    let type-at = c .before .before .type-at in
+    let type-allowed = c .before .type-allowed in
+    let w = loop in goes-on (now (args .file)) (args .at) (args .n) (pick (args .half) four eight) (w .i) (type-at .result) (type-allowed .result)
+    (omega arith) (type-at .ensures) (type-allowed .ensures) (w .inv) (not-false (type-allowed .result) (c .if1 .left))
 
 returns-2 : tie.Need-returns-2 Inv-loop μ-loop
 returns-2 c = let a = c .before .before .before .args in let w = c .before .loop in ends (now (a .file)) (a .at) (a .n) (pick (a .half) four eight) (w .i) (omega arith) (w .inv)

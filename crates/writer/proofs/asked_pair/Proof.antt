@@ -21,7 +21,11 @@ enum-told : tie.Need-enum-told
 enum-told c = search needs
 
 returns-2 : tie.Need-returns-2
-returns-2 c = code-known (c .before .before .before .before .before .args .code) (c .before .before .before .pair-of .result) (c .before .pair .given .0 .0) (c .before .before .before .pair-of .ensures) (c .before .pair .given .1)
+returns-2 c =
+    let args = c .before .before .before .before .before .args in
+    let pair-of = c .before .before .before .pair-of in
+    let pair = c .before .pair in
+    code-known (args .code) (pair-of .result) (pair .given .0 .0) (pair-of .ensures) (pair .given .1)
 
 returns-3 : tie.Need-returns-3
 returns-3 c = code-unknown (c .before .before .before .before .args .code) (c .before .before .pair-of .result) (c .before .before .pair-of .ensures) (c .enum-told .given .1)

@@ -13,23 +13,33 @@ slice-write-output c = search needs
 
 put-array-requires : tie.Need-put-array-requires
 put-array-requires c κs =
-    let a = c .before .before .before .before .args in
-    ((c .before .before .before .before .pre .0 .0 .small), room-bits (a .pair) (a .anchor .now) (a .categories .now) (a .output .now) (c .before .before .before .before .pre .1))
+    let pre = c .before .before .before .before .pre in
+    let args = c .before .before .before .before .args in
+    ((pre .0 .0 .small), room-bits (args .pair) (args .anchor .now) (args .categories .now) (args .output .now) (pre .1))
 
 put-list-requires : tie.Need-put-list-requires
 put-list-requires c κs =
-    let a = c .before .before .before .before .before .before .before .before .args in
-    ((rows-pair (asked.Pair (a .pair)) (a .pair) (a .anchor .now) (a .categories .now) (c .before .before .before .before .before .before .before .before .pre .0 .0), (c .before .before .before .before .before .before .before .before .pre .0 .1)), room-list (a .pair) (a .anchor .now) (a .categories .now) (a .output .now) (c .before .before .before .before .before .before .before .before .pre .1) (c .before .before .before .put-array .ensures))
+    let args = c .before .before .before .before .before .before .before .before .args in
+    let pre = c .before .before .before .before .before .before .before .before .pre in
+    let put-array = c .before .before .before .put-array in
+    ((rows-pair (asked.Pair (args .pair)) (args .pair) (args .anchor .now) (args .categories .now) (pre .0 .0), (pre .0 .1)), room-list (args .pair) (args .anchor .now) (args .categories .now) (args .output .now) (pre .1) (put-array .ensures))
 
 same-length : tie.Need-same-length
 same-length c =
-    let a = c .before .before .before .before .before .before .before .before .before .before .before .args in
-    wrote-length (pair-written (a .pair) (a .anchor .now) (a .categories .now) (a .output .now) (c .before .before .before .before .before .before .before .before .before .before .before .pre .1) (c .before .before .before .before .before .before .put-array .ensures) (c .before .before .put-list .ensures))
+    let args = c .before .before .before .before .before .before .before .before .before .before .before .args in
+    let pre = c .before .before .before .before .before .before .before .before .before .before .before .pre in
+    let put-array = c .before .before .before .before .before .before .put-array in
+    let put-list = c .before .before .put-list in
+    wrote-length
+    (pair-written (args .pair) (args .anchor .now) (args .categories .now) (args .output .now) (pre .1) (put-array .ensures) (put-list .ensures))
 
 returns : tie.Need-returns
 returns c =
-    let a = c .before .before .before .before .before .before .before .before .before .before .before .args in
-    pair-written (a .pair) (a .anchor .now) (a .categories .now) (a .output .now) (c .before .before .before .before .before .before .before .before .before .before .before .pre .1) (c .before .before .before .before .before .before .put-array .ensures) (c .before .before .put-list .ensures)
+    let args = c .before .before .before .before .before .before .before .before .before .before .before .args in
+    let pre = c .before .before .before .before .before .before .before .before .before .before .before .pre in
+    let put-array = c .before .before .before .before .before .before .put-array in
+    let put-list = c .before .before .put-list in
+    pair-written (args .pair) (args .anchor .now) (args .categories .now) (args .output .now) (pre .1) (put-array .ensures) (put-list .ensures)
 
 pub put-pair-spec : {M : Type 1} → statement M
 put-pair-spec =

@@ -11,22 +11,29 @@ enum-told c = search needs
 
 put-array-requires : tie.Need-put-array-requires
 put-array-requires c κs =
-    let a = c .before .before .before .before .before .before .args in
-    ((c .before .before .before .before .before .before .pre .0 .0 .small), room-array (a .asked) (a .anchor .now) (a .categories .now) (a .output .now) (c .before .enum-told .given .1) (c .before .before .before .before .before .before .pre .1))
+    let pre = c .before .before .before .before .before .before .pre in
+    let args = c .before .before .before .before .before .before .args in
+    let enum-told = c .before .enum-told in
+    ((pre .0 .0 .small), room-array (args .asked) (args .anchor .now) (args .categories .now) (args .output .now) (enum-told .given .1) (pre .1))
 
 enum-known-asked : tie.Need-enum-known-asked
 enum-known-asked c = search needs
 
 put-pair-requires : tie.Need-put-pair-requires
-put-pair-requires c κs = ((rw (c .before .before .asked .given .1) at (c .before .before .before .before .before .before .before .pre .0 .0), rw (c .before .before .asked .given .1) at (c .before .before .before .before .before .before .before .pre .0 .1)), rw (c .before .before .asked .given .1) at (c .before .before .before .before .before .before .before .pre .1))
+put-pair-requires c κs =
+    let asked = c .before .before .asked in
+    let pre = c .before .before .before .before .before .before .before .pre in
+    ((rw (asked .given .1) at (pre .0 .0), rw (asked .given .1) at (pre .0 .1)), rw (asked .given .1) at (pre .1))
 
 enum-known-asked-2 : tie.Need-enum-known-asked-2
 enum-known-asked-2 c = search needs
 
 put-list-requires : tie.Need-put-list-requires
 put-list-requires c κs =
-    let a = c .before .before .before .before .before .before .before .args in
-    ((rows-list (a .asked) (c .before .before .asked2 .given .0 .0) (a .anchor .now) (a .categories .now) (c .before .before .asked2 .given .1) (c .before .before .before .before .before .before .before .pre .0 .0), count-of-list (a .asked) (a .anchor .now) (a .categories .now) (a .output .now) (c .before .before .asked2 .given .0 .0) (c .before .before .asked2 .given .1) (a .count) (c .before .before .before .before .before .before .before .pre .0 .1)), room-of-list (a .asked) (a .anchor .now) (a .categories .now) (a .output .now) (c .before .before .asked2 .given .0 .0) (c .before .before .asked2 .given .1) (c .before .before .before .before .before .before .before .pre .1))
+    let args = c .before .before .before .before .before .before .before .args in
+    let asked2 = c .before .before .asked2 in
+    let pre = c .before .before .before .before .before .before .before .pre in
+    ((rows-list (args .asked) (asked2 .given .0 .0) (args .anchor .now) (args .categories .now) (asked2 .given .1) (pre .0 .0), count-of-list (args .asked) (args .anchor .now) (args .categories .now) (args .output .now) (asked2 .given .0 .0) (asked2 .given .1) (args .count) (pre .0 .1)), room-of-list (args .asked) (args .anchor .now) (args .categories .now) (args .output .now) (asked2 .given .0 .0) (asked2 .given .1) (pre .1))
 
 enum-told-2 : tie.Need-enum-told-2
 enum-told-2 c = search needs

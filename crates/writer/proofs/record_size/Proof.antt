@@ -25,42 +25,58 @@ array-size-requires-2 c κs = search needs
 
 list-size-requires : tie.Need-list-size-requires
 list-size-requires c κs =
-    let a = c .before .before .before .before .before .before .args in
-    rows-pair (a .asked) (c .before .before .asked .given .0 .0) (a .anchor .now) (a .categories .now) (c .before .before .before .before .before .before .pre)
+    let args = c .before .before .before .before .before .before .args in
+    let asked = c .before .before .asked in
+    let pre = c .before .before .before .before .before .before .pre in
+    rows-pair (args .asked) (asked .given .0 .0) (args .anchor .now) (args .categories .now) pre
 
 add-t15 : tie.Need-add-t15
 add-t15 c = search needs
 
 add-t17 : tie.Need-add-t17
 add-t17 c =
-    let a = c .before .before .before .before .before .before .before .before .args in
-    let p = (c .before .before .before .before .asked .given .0 .0) in let rows = rows-pair (a .asked) p (a .anchor .now) (a .categories .now) (c .before .before .before .before .before .before .before .before .pre) in omega (arith, (c .before .list-size .ensures .bytes-are), (c .before .before .array-size2 .ensures), (c .before .before .before .before .before .before .before .before .pre .few), list-most (length (a .categories .now)) (listed (base.Pair (p .lower) (p .higher)) (a .anchor .now) (a .categories .now)) (listed-most (base.Pair (p .lower) (p .higher)) (a .anchor .now) (a .categories .now) rows))
+    let asked = c .before .before .before .before .asked in
+    let args = c .before .before .before .before .before .before .before .before .args in
+    let pre = c .before .before .before .before .before .before .before .before .pre in
+    let list-size = c .before .list-size in
+    let array-size2 = c .before .before .array-size2 in
+    let p = (asked .given .0 .0) in let rows = rows-pair (args .asked) p (args .anchor .now) (args .categories .now) pre in omega
+    (arith, (list-size .ensures .bytes-are), (array-size2 .ensures), (pre .few), list-most (length (args .categories .now)) (listed (base.Pair (p .lower) (p .higher)) (args .anchor .now) (args .categories .now)) (listed-most (base.Pair (p .lower) (p .higher)) (args .anchor .now) (args .categories .now) rows))
 
 enum-known-asked-2 : tie.Need-enum-known-asked-2
 enum-known-asked-2 c = search needs
 
 list-size-requires-2 : tie.Need-list-size-requires-2
 list-size-requires-2 c κs =
-    let a = c .before .before .before .before .before .args in
-    rows-list (a .asked) (c .before .asked2 .given .0 .0) (a .anchor .now) (a .categories .now) (c .before .asked2 .given .1) (c .before .before .before .before .before .pre)
+    let args = c .before .before .before .before .before .args in
+    let asked2 = c .before .asked2 in
+    let pre = c .before .before .before .before .before .pre in
+    rows-list (args .asked) (asked2 .given .0 .0) (args .anchor .now) (args .categories .now) (asked2 .given .1) pre
 
 enum-told-2 : tie.Need-enum-told-2
 enum-told-2 c = search needs
 
 returns : tie.Need-returns
 returns c =
-    let a = c .before .before .before .before .before .args in
-    size-array (a .asked) (a .anchor .now) (a .categories .now) (c .before .enum-told .given .1) (c .array-size .result) (c .array-size .ensures)
+    let args = c .before .before .before .before .before .args in
+    let enum-told = c .before .enum-told in
+    size-array (args .asked) (args .anchor .now) (args .categories .now) (enum-told .given .1) (c .array-size .result) (c .array-size .ensures)
 
 returns-2 : tie.Need-returns-2
 returns-2 c =
-    let a = c .before .before .before .before .before .before .before .before .args in
-    size-pair (a .asked) (a .anchor .now) (a .categories .now) (c .before .before .before .before .asked .given .0 .0) (c .before .before .before .before .asked .given .1) (c .before .before .array-size2 .result) (c .before .list-size .result) (c .before .before .array-size2 .ensures) (c .before .list-size .ensures)
+    let args = c .before .before .before .before .before .before .before .before .args in
+    let asked = c .before .before .before .before .asked in
+    let array-size2 = c .before .before .array-size2 in
+    let list-size = c .before .list-size in
+    size-pair (args .asked) (args .anchor .now) (args .categories .now) (asked .given .0 .0) (asked .given .1) (array-size2 .result) (list-size .result)
+    (array-size2 .ensures) (list-size .ensures)
 
 returns-3 : tie.Need-returns-3
 returns-3 c =
-    let a = c .before .before .before .before .before .before .args in
-    size-list (a .asked) (a .anchor .now) (a .categories .now) (c .before .before .asked2 .given .0 .0) (c .before .before .asked2 .given .1) (c .list-size2 .result) (c .list-size2 .ensures)
+    let args = c .before .before .before .before .before .before .args in
+    let asked2 = c .before .before .asked2 in
+    size-list (args .asked) (args .anchor .now) (args .categories .now) (asked2 .given .0 .0) (asked2 .given .1) (c .list-size2 .result)
+    (c .list-size2 .ensures)
 
 returns-4 : tie.Need-returns-4
 returns-4 c = search needs

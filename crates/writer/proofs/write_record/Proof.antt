@@ -17,31 +17,52 @@ enum-known-asked c = search needs
 
 record-size-requires : tie.Need-record-size-requires
 record-size-requires c κs =
-    let a = c .before .before .before .before .before .before .before .args in
-    call-fits (a .categories .now) (a .kind) (a .code) (a .anchor .now) (a .output .now) (c .before .before .before .check .result) (c .before .before .before .check .ensures) (c .before .asked .given .0 .0) (c .before .asked .given .1)
+    let args = c .before .before .before .before .before .before .before .args in
+    let check = c .before .before .before .check in
+    let asked = c .before .asked in
+    call-fits (args .categories .now) (args .kind) (args .code) (args .anchor .now) (args .output .now) (check .result) (check .ensures)
+    (asked .given .0 .0) (asked .given .1)
 
 returns : tie.Need-returns
 returns c =
-    let a = c .before .before .before .before .before .before .before .before .before .before .args in
-    call-short (a .categories .now) (a .kind) (a .code) (a .anchor .now) (a .output .now) (c .before .before .before .before .before .before .check .result) (c .before .before .before .before .before .before .check .ensures) (c .before .before .before .before .asked .given .0 .0) (c .before .before .before .before .asked .given .1) (c .before .before .record-size .result .bytes) (c .before .before .record-size .ensures .bytes-are) (c .if1 .taken)
+    let args = c .before .before .before .before .before .before .before .before .before .before .args in
+    let check = c .before .before .before .before .before .before .check in
+    let asked = c .before .before .before .before .asked in
+    let record-size = c .before .before .record-size in
+    call-short (args .categories .now) (args .kind) (args .code) (args .anchor .now) (args .output .now) (check .result) (check .ensures)
+    (asked .given .0 .0) (asked .given .1) (record-size .result .bytes) (record-size .ensures .bytes-are) (c .if1 .taken)
 
 put-record-requires : tie.Need-put-record-requires
 put-record-requires c κs =
-    let a = c .before .before .before .before .before .before .before .before .before .before .before .args in
-    ((call-fits (a .categories .now) (a .kind) (a .code) (a .anchor .now) (a .output .now) (c .before .before .before .before .before .before .before .check .result) (c .before .before .before .before .before .before .before .check .ensures) (c .before .before .before .before .before .asked .given .0 .0) (c .before .before .before .before .before .asked .given .1), (c .before .before .before .record-size .ensures .count-is)), omega (arith, (c .before .before .before .record-size .ensures .bytes-are), (c .before .if1 .left)))
+    let args = c .before .before .before .before .before .before .before .before .before .before .before .args in
+    let check = c .before .before .before .before .before .before .before .check in
+    let asked = c .before .before .before .before .before .asked in
+    let record-size = c .before .before .before .record-size in
+    let if1 = c .before .if1 in
+    ((call-fits (args .categories .now) (args .kind) (args .code) (args .anchor .now) (args .output .now) (check .result) (check .ensures) (asked .given .0 .0) (asked .given .1), (record-size .ensures .count-is)), omega (arith, (record-size .ensures .bytes-are), (if1 .left)))
 
 returns-2 : tie.Need-returns-2
 returns-2 c =
-    let a = c .before .before .before .before .before .before .before .args in
-    call-refused (a .categories .now) (a .kind) (a .code) (a .anchor .now) (a .output .now) (c .before .before .before .check .result) (c .before .before .before .check .ensures) (c .before .number .given .0 .0) (c .before .number .given .0 .1 .0) (c .before .number .given .1)
+    let args = c .before .before .before .before .before .before .before .args in
+    let check = c .before .before .before .check in
+    let number = c .before .number in
+    call-refused (args .categories .now) (args .kind) (args .code) (args .anchor .now) (args .output .now) (check .result) (check .ensures)
+    (number .given .0 .0) (number .given .0 .1 .0) (number .given .1)
 
 same-length : tie.Need-same-length
 same-length c = search needs
 
 returns-3 : tie.Need-returns-3
 returns-3 c =
-    let a = c .before .before .before .before .before .before .before .before .before .before .before .before .before .before .args in
-    call-written (a .categories .now) (a .kind) (a .code) (a .anchor .now) (a .output .now) (c .before .before .before .before .before .before .before .before .before .before .check .result) (c .before .before .before .before .before .before .before .before .before .before .check .ensures) (c .before .before .before .before .before .before .before .before .asked .given .0 .0) (c .before .before .before .before .before .before .before .before .asked .given .1) (c .before .before .before .before .before .before .record-size .result .bytes) (c .before .before .before .before .before .before .record-size .ensures .bytes-are) (c .before .before .before .before .if1 .left) (c .before .before .put-record .result) _ (c .before .before .put-record .ensures)
+    let args = c .before .before .before .before .before .before .before .before .before .before .before .before .before .before .args in
+    let check = c .before .before .before .before .before .before .before .before .before .before .check in
+    let asked = c .before .before .before .before .before .before .before .before .asked in
+    let record-size = c .before .before .before .before .before .before .record-size in
+    let if1 = c .before .before .before .before .if1 in
+    let put-record = c .before .before .put-record in
+    call-written (args .categories .now) (args .kind) (args .code) (args .anchor .now) (args .output .now) (check .result) (check .ensures)
+    (asked .given .0 .0) (asked .given .1) (record-size .result .bytes) (record-size .ensures .bytes-are) (if1 .left) (put-record .result) _
+    (put-record .ensures)
 
 pub write-record-spec : {M : Type 1} → statement M
 write-record-spec =

@@ -35,9 +35,11 @@ same-length c = search needs
 
 returns : tie.Need-returns Inv-loop μ-loop
 returns c =
-    turn-stop (c .before .before .before .before .before .before .before .before .loop .inv)
-    (c .before .before .before .before .before .before .before .loop-test .taken) (c .before .before .before .before .before .next-entry .ensures)
-    (c .before .got .given .1)
+    let loop = c .before .before .before .before .before .before .before .before .loop in
+    let loop-test = c .before .before .before .before .before .before .before .loop-test in
+    let next-entry = c .before .before .before .before .before .next-entry in
+    let got = c .before .got in
+    turn-stop (loop .inv) (loop-test .taken) (next-entry .ensures) (got .given .1)
 
 enum-known-got-2 : tie.Need-enum-known-got-2 Inv-loop μ-loop
 enum-known-got-2 c = search needs
@@ -52,7 +54,10 @@ short-steps-requires c κs =
     (w .room, omega (arith, w .keeps, c .before .before .before .before .before .before .before .before .before .before .before .before .pre .1))
 
 loop-less : tie.Need-loop-less Inv-loop μ-loop
-loop-less c = omega (arith, c .before .before .before .short-steps .ensures .1, c .before .before .before .before .before .before .before .before .before .before .before .before .loop-test .taken)
+loop-less c =
+    let short-steps = c .before .before .before .short-steps in
+    let loop-test = c .before .before .before .before .before .before .before .before .before .before .before .before .loop-test in
+    omega (arith, short-steps .ensures .1, loop-test .taken)
 
 loop-again : tie.Need-loop-again Inv-loop μ-loop
 loop-again c =

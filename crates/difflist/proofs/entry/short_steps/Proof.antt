@@ -40,22 +40,38 @@ cast-last : tie.Need-cast-last Inv-loop μ-loop
 cast-last c = omega (arith, c .shared-slice-known2 .given (c .before .before .before .before .before .loop .st .at) .fits)
 
 add-last : tie.Need-add-last Inv-loop μ-loop
-add-last c = omega (arith, c .before .before .before .is-short .ensures (not-false _ (c .before .before .if1 .left)) .below, c .before .before .before .before .before .before .loop .inv .0 .keeps, c .before .before .before .before .before .before .before .before .before .pre .1)
+add-last c =
+    let is-short = c .before .before .before .is-short in
+    let if1 = c .before .before .if1 in
+    let loop = c .before .before .before .before .before .before .loop in
+    let pre = c .before .before .before .before .before .before .before .before .before .pre in
+    omega (arith, is-short .ensures (not-false _ (if1 .left)) .below, loop .inv .0 .keeps, pre .1)
 
 two-bits-requires : tie.Need-two-bits-requires Inv-loop μ-loop
 two-bits-requires c κs = omega (arith, c .before .before .before .before .before .before .before .loop .inv .0 .room .values, c .before .before .before .before .before .before .loop-test .taken)
 
 keep-requires : tie.Need-keep-requires Inv-loop μ-loop
-keep-requires c κs = omega (arith, c .before .before .before .before .before .is-short .ensures (not-false _ (c .before .before .before .before .if1 .left)) .below, c .before .before .before .before .before .before .before .before .loop .inv .0 .keeps, c .before .before .before .before .before .before .before .before .before .before .before .pre .1)
+keep-requires c κs =
+    let is-short = c .before .before .before .before .before .is-short in
+    let if1 = c .before .before .before .before .if1 in
+    let loop = c .before .before .before .before .before .before .before .before .loop in
+    let pre = c .before .before .before .before .before .before .before .before .before .before .before .pre in
+    omega (arith, is-short .ensures (not-false _ (if1 .left)) .below, loop .inv .0 .keeps, pre .1)
 
 sub-st : tie.Need-sub-st Inv-loop μ-loop
-sub-st c = omega (arith, c .before .before .before .before .before .before .before .before .before .is-short .ensures (not-false _ (c .before .before .before .before .before .before .before .before .if1 .left)) .step)
+sub-st c =
+    let is-short = c .before .before .before .before .before .before .before .before .before .is-short in
+    let if1 = c .before .before .before .before .before .before .before .before .if1 in
+    omega (arith, is-short .ensures (not-false _ (if1 .left)) .step)
 
 add-st : tie.Need-add-st Inv-loop μ-loop
 add-st c = omega (arith, c .before .before .before .before .before .before .before .before .before .before .before .before .loop .inv .0 .room .few)
 
 add-st-2 : tie.Need-add-st-2 Inv-loop μ-loop
-add-st-2 c = omega (arith, c .before .before .before .before .before .before .before .before .before .is-short .ensures (not-false _ (c .before .before .before .before .before .before .before .before .if1 .left)) .inside)
+add-st-2 c =
+    let is-short = c .before .before .before .before .before .before .before .before .before .is-short in
+    let if1 = c .before .before .before .before .before .before .before .before .if1 in
+    omega (arith, is-short .ensures (not-false _ (if1 .left)) .inside)
 
 sub-more : tie.Need-sub-more Inv-loop μ-loop
 sub-more c = search needs

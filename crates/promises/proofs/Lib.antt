@@ -1,0 +1,3 @@
+pub mod FlipPromises
+pub mod StepIsRead
+pub mod RowsAreReads

@@ -1,0 +1,179 @@
+"""What the comparison at scale reached: refusals by call, kinds, modes, forms and widths."""
+
+from collections import Counter
+
+from pgen_cases import FLIP, LOOKUP, READ, WRITE
+from pgen_header import BLOCK_SIZE, LEANING_KINDS, Refused, read_header
+from probe_cases import CALLS, POSSIBLE
+
+KINDS = [0, 1, 2, 3, 4, 6, 7]
+REFUSALS = range(22)
+FORMS = {0x02: [0x00, 0x40, 0x80, 0xc0], 0x10: [high << 6 | low for high in range(4) for low in range(8)]}
+MEMBERSHIPS = [(member, anchor_member) for member in (False, True) for anchor_member in (False, True)]
+LIMITS_OF_N = (1, 4, 5, 63, 64, 65, 255, 256, 257, 300, 65535, 65536)
+LIST_REFUSALS = [12, 13, 15, 16, 17, 18]
+
+
+class Counts:
+    """Counts under names, each with a key."""
+
+    def __init__(self):
+        self.of = Counter()
+        self.header = None
+
+    def add(self, other):
+        """Another's counts too."""
+        self.of.update(other.of)
+
+    def file(self, damage, file):
+        """A file, of which calls follow."""
+        self.of["files"] += 1
+        self.of["damage", damage.split(":")[0]] += 1
+        self.of["fault", damage] += 1
+        try:
+            self.header = read_header(file)
+        except Refused as refused:
+            self.header = None
+            self.of["header refused", refused.number] += 1
+            return
+        header = self.header
+        self.of["mode and form", header.mode, header.form] += 1
+        self.of["number width", 1 if header.N <= 256 else 2] += 1
+        self.of["N", header.N] += 1
+        self.of["blocks", len(header.blocks)] += 1
+        if header.M >= BLOCK_SIZE - 1:
+            self.of["M", header.M] += 1
+
+    def call(self, case, number):
+        """A call and its refusal number."""
+        self.of["call", case.call, number] += 1
+        if case.call == WRITE:
+            if number == 0:
+                self.of["kind", "written", case.x] += 1
+        elif self.header is not None and number is not None and number not in range(1, 12):
+            self.kinds(case, number)
+
+    def kinds(self, case, number):
+        """The kinds that a call concerned: of the variant asked for, or of all that were flipped."""
+        types = self.header.types
+        if case.call in (READ, LOOKUP):
+            self.of["kind", "refused" if number else "read", types[case.x]] += 1
+            self.of["kind and refusal", types[case.x], number] += 1
+        elif case.call == FLIP and number == 0:
+            self.flipped(types, case.second)
+
+    def flipped(self, types, flip_set):
+        """The kinds of the members, and of leaning records whether they and their anchors are members."""
+        anchor_member = False
+        for variant, kind in enumerate(types):
+            member = bool(flip_set[variant // 8] >> variant % 8 & 1)
+            self.of["kind", "flipped", kind] += member
+            if kind in LEANING_KINDS:
+                self.of["leaning", kind, member, anchor_member] += 1
+            else:
+                anchor_member = member
+
+    def listing(self, text):
+        """A listing."""
+        said = next((words for words in ("refused", "too large") if text.startswith(words)), "accepted")
+        self.of["listing", said] += 1
+
+    def calls(self):
+        """How many calls."""
+        return sum(count for key, count in self.of.items() if key[0] == "call")
+
+    def listings(self):
+        """How many listings."""
+        return sum(count for key, count in self.of.items() if key[0] == "listing")
+
+    def missing(self):
+        """What could be reached and was not."""
+        for call, numbers in POSSIBLE.items():
+            for number in [0] + numbers:
+                if not self.of["call", call, number]:
+                    yield f"{CALLS[call]}, refusal {number}"
+        for key in self.wanted():
+            if not self.of[key]:
+                yield " ".join(map(str, key))
+
+    def wanted(self):
+        """What must be reached beside the refusals of each call."""
+        for kind in KINDS:
+            yield from (("kind", what, kind) for what in ("read", "refused", "flipped", "written"))
+            its_own = [12, 13, 18] if kind == 0 else LIST_REFUSALS + [14] * (kind == 1)
+            yield from (("kind and refusal", kind, number) for number in its_own)
+        for kind in LEANING_KINDS:
+            yield from (("leaning", kind, *members) for members in MEMBERSHIPS)
+        for mode, forms in FORMS.items():
+            yield from (("mode and form", mode, form) for form in forms)
+        yield from (("listing", what) for what in ("accepted", "refused", "too large"))
+
+    def table(self, distinct):
+        """The summary."""
+        return "\n".join([
+            f"files: {self.of['files']}, of which {distinct} are distinct", self.damages(), self.refusals(), self.record_kinds(),
+            self.kind_refusals(), self.leaning(), self.forms(), self.sizes()])
+
+    def damages(self):
+        """Files by their damage."""
+        lines = [f"  {name}: {count}" for (_, name), count in self.under("damage")]
+        faults = "; ".join(f"{name} {count}" for (_, name), count in self.under("fault") if name.startswith(("record:", "header:")))
+        return "\n".join(["files by damage:", *lines, f"  each fault: {faults}"])
+
+    def refusals(self):
+        """A row for each refusal number, a column for each call."""
+        lines = ["| No. | " + " | ".join(CALLS[call] for call in CALLS) + " | all |", "|---" * (len(CALLS) + 2) + "|"]
+        for number in REFUSALS:
+            row = [self.of["call", call, number] for call in CALLS]
+            cells = [str(count) if number in [0] + POSSIBLE[call] else "" for call, count in zip(CALLS, row)]
+            lines.append(f"| {number} | " + " | ".join(cells) + f" | {sum(row)} |")
+        row = [sum(self.of["call", call, number] for number in REFUSALS) for call in CALLS]
+        lines.append("| all | " + " | ".join(map(str, row)) + f" | {sum(row)} |")
+        return "\n".join(["calls by refusal number:"] + lines)
+
+    def record_kinds(self):
+        """A row for each kind: reads and lookups accepted and refused, records flipped and written."""
+        names = ("read", "refused", "flipped", "written")
+        lines = ["| Kind | reads and lookups accepted | refused in a record | records flipped | records written |", "|---|---|---|---|---|"]
+        for kind in KINDS:
+            lines.append(f"| {kind} | " + " | ".join(str(self.of["kind", name, kind]) for name in names) + " |")
+        return "\n".join(["kinds:"] + lines)
+
+    def kind_refusals(self):
+        """A row for each kind, a column for each refusal of a record (of the variant asked for or of its anchor)."""
+        numbers = range(12, 19)
+        lines = ["| Kind | " + " | ".join(map(str, numbers)) + " |", "|---" * 8 + "|"]
+        for kind in KINDS:
+            lines.append(f"| {kind} | " + " | ".join(str(self.of["kind and refusal", kind, number]) for number in numbers) + " |")
+        return "\n".join(["refusals of reads and lookups by the kind asked for:"] + lines)
+
+    def leaning(self):
+        """Leaning records of accepted flips by kind, their own membership and their anchor's."""
+        lines = ["| Kind | neither | anchor only | itself only | both |", "|---|---|---|---|---|"]
+        for kind in LEANING_KINDS:
+            lines.append(f"| {kind} | " + " | ".join(str(self.of["leaning", kind, *members]) for members in MEMBERSHIPS) + " |")
+        return "\n".join(["leaning records of accepted flips, by who is a member:"] + lines)
+
+    def forms(self):
+        """Files whose header is accepted, by mode and form."""
+        lines = ["| Mode, bits 6 and 7 | " + " | ".join(f"bits 0 to 3: {low}" for low in range(8)) + " |", "|---" * 9 + "|"]
+        for mode, forms in FORMS.items():
+            for high in range(4):
+                cells = [str(self.of["mode and form", mode, form]) if form in forms else "" for form in range(high << 6, (high << 6) + 8)]
+                lines.append(f"| 0x{mode:02x}, {high} | " + " | ".join(cells) + " |")
+        return "\n".join(["files with an accepted header, by mode and form:"] + lines)
+
+    def sizes(self):
+        """Files whose header is accepted: bytes of a sample number, N and M at the limits, blocks."""
+        limits = "; ".join(f"{N}: {self.of['N', N]}" for N in LIMITS_OF_N)
+        return "\n".join(["files with an accepted header:", f"  by bytes of a sample number: {self.line('number width')}", f"  by N: {limits}",
+                          f"  by M of 65,535 and more: {self.line('M')}", f"  by number of blocks (0 in mode 0x02): {self.line('blocks')}",
+                          f"listings: {self.line('listing')}"])
+
+    def line(self, name):
+        """The counts under a name in one line."""
+        return "; ".join(f"{key[1]}: {count}" for key, count in self.under(name))
+
+    def under(self, name):
+        """The counts under a name, in order."""
+        return sorted((key, count) for key, count in self.of.items() if key[0] == name)

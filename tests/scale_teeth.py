@@ -1,0 +1,119 @@
+"""What the comparison can find, outside the gate: the independent program is made wrong in one place, and the comparison at scale must see it.
+
+    python3 tests/scale_teeth.py [--files 800] [--seed 1] [--only WORDS]
+
+Each line is one wrong rule: how many calls then disagree, and in which file first. The exit status is 1 if one of them is not seen.
+"""
+
+import argparse
+import re
+import shutil
+import subprocess
+import sys
+import tempfile
+from pathlib import Path
+
+ROOT = Path(__file__).resolve().parent.parent
+HEADER, RECORD, CALLS = "pgen_header.py", "pgen_record.py", "pgen_reference.py"
+# what is wrong; the file; the text; what stands for it; whether it shows in files of more than one block only
+WRONG = [
+    ("N = 256 uses two-byte numbers", RECORD, "return 1 if N <= 256", "return 1 if N <= 255", False),
+    ("a step of 0 is allowed", RECORD, "if sample <= before or", "if sample < before or", False),
+    ("a sample may be N", RECORD, "or sample >= N:", "or sample > N:", False),
+    ("the count may be N + 1", RECORD, "if L > N:", "if L > N + 1:", False),
+    ("the size byte is not checked", RECORD, "if place - group_start != file[size_place] + 63:", "if False:", False),
+    ("64 entries are two groups", RECORD, "width, G = number_width(N), up(L, GROUP)", "width, G = number_width(N), up(L + 1, GROUP)", False),
+    ("unused bits are not checked", RECORD, "if used and file[after - 1] >> used:", "if False:", False),
+    ("refusal 17 at the list's first value byte", RECORD, "raise Refused(17, value_start + k // 4)", "raise Refused(17, value_start)", False),
+    ("16 of a head at the list's first head", RECORD, "number_place = heads + k // GROUP * width\n", "number_place = heads\n", False),
+    ("17 before 16", RECORD, "        if sample <= before or sample >= N:\n            raise Refused(16, number_place)\n        if values[k]",
+     "        if sample >= N and values[k] == 0:\n            raise Refused(17, value_start + k // 4)\n"
+     "        if sample <= before or sample >= N:\n            raise Refused(16, number_place)\n        if values[k]", False),
+    ("a padded varint is allowed", RECORD, "padded = i > 0 and byte == 0", "padded = False", False),
+    ("a varint has six bytes", RECORD, "for i in range(5):", "for i in range(6):", False),
+    ("a varint may be 4,294,967,296", RECORD, "value >= 1 << 32", "value > 1 << 32", False),
+    ("a cut varint is 15", RECORD, "        if place + i >= end:\n            raise Refused(12, end)",
+     "        if place + i >= end:\n            raise Refused(15, place)", False),
+    ("one byte may be left", RECORD, "if place < end:", "if place + 1 < end:", False),
+    ("kind 3 inverts the anchor and not the listed values", RECORD, "record = Record(exchange(categories) if kind == 3 else categories, 0, (), listed)",
+     "record = Record(patched(exchange(under), listed) if kind == 3 else categories, 0, (), listed)", False),
+    ("code 9 is 1,3", RECORD, "9: (2, 3)}", "9: (1, 3)}", False),
+    ("the writer keeps a 1 for listed samples", RECORD, "bits[sample] = listed_bits.get(sample, 0)", "bits[sample] = listed_bits.get(sample, 1)", False),
+    ("kind 2 serves as an anchor of reads", HEADER, "while self.types[earlier] in LEANING_KINDS:", "while False:", False),
+    ("kind 2 at the start of a later block", HEADER, "leaning_first = variant % BLOCK_SIZE == 0", "leaning_first = variant == 0", True),
+    ("7 after 8", HEADER, "refuse_lowest(7, header.unused_bits_places())\n    header.find_types()\n    refuse_lowest(8, header.bad_type_places())",
+     "header.find_types()\n    refuse_lowest(8, header.bad_type_places())\n    refuse_lowest(7, header.unused_bits_places())", False),
+    ("an offset of four bytes", HEADER, "if little(self.file[field:field + 8]) !=", "if little(self.file[field:field + 4]) !=", False),
+    ("only the first offset is checked", HEADER, "for number, block in enumerate(self.blocks):", "for number, block in enumerate(self.blocks[:1]):", True),
+    ("form 8 is allowed", HEADER, "form & 0x0f > (0 if mode == PLAIN_MODE else 7)", "form & 0x0f > (0 if mode == PLAIN_MODE else 8)", False),
+    ("M may be 16,777,217", HEADER, "GREATEST_M = 16777216", "GREATEST_M = 16777217", False),
+    ("N may be 65,537", HEADER, "GREATEST_N = 65536", "GREATEST_N = 65537", False),
+    ("a block is 65,535 variants", HEADER, "BLOCK_SIZE = 65536", "BLOCK_SIZE = 65535", True),
+    ("flag bits of a block also where bits 6 and 7 are 2", HEADER, "(up(count, 8) if form >> 6 == 3 else 0)", "(up(count, 8) if form >> 6 >= 2 else 0)", False),
+    ("bytes past the records are allowed", HEADER, "if header.starts[-1] != len(file):", "if header.starts[-1] > len(file):", False),
+    ("11 before 10", CALLS, "    if any(len(buffer) < header.N for buffer in lent):\n        raise Refused(10, 0)\n"
+     "    if variant >= header.M or sample >= header.N:\n        raise Refused(11, 0)\n",
+     "    if variant >= header.M or sample >= header.N:\n        raise Refused(11, 0)\n"
+     "    if any(len(buffer) < header.N for buffer in lent):\n        raise Refused(10, 0)\n", False),
+    ("sample N is looked up", CALLS, "sample >= header.N:", "sample > header.N:", False),
+    ("the whole work area is cleared", CALLS, "return bytes(N) + work[N:]", "return bytes(len(work))", False),
+    ("a longer flip set is allowed", CALLS, "if len(flip_set) != up(header.M, 8)", "if len(flip_set) < up(header.M, 8)", False),
+    ("bits past the last variant are allowed", CALLS, "if header.M % 8 and flip_set[-1] >> header.M % 8:", "if False:", False),
+    ("kind 1's bits turn for every code", CALLS, "low > high\n", "True\n", False),
+    ("the bits of listed samples stay in a flip", CALLS, "record.bits[sample] ^ turned", "record.bits[sample]", False),
+    ("a leaning record's type stays in a flip", CALLS, "kind = kind ^ 1 if member != anchor_member else kind", "kind = kind", False),
+    ("the writer looks at the anchor first", CALLS, "for buffer in (categories, anchor):", "for buffer in (anchor, categories):", False),
+    ("the writer takes any anchor in other kinds", CALLS, "if len(anchor) != (N if kind in LEANING_KINDS else 0):",
+     "if kind in LEANING_KINDS and len(anchor) != N:", False),
+]
+
+
+def copied(folder):
+    """The tests and the built programs in another folder."""
+    for name in ("tests", "tools"):
+        shutil.copytree(ROOT / name, folder / name)
+    shutil.copytree(ROOT / "target" / "bin", folder / "target" / "bin")
+
+
+def change(path, old, new):
+    """One text for another that stands in a file once."""
+    text = path.read_text()
+    assert text.count(old) == 1, (path.name, old, text.count(old))
+    path.write_text(text.replace(old, new))
+
+
+def seen(name, old, new, blocks, files, seed):
+    """What the comparison says with the text changed: how many disagree, and in which file first."""
+    with tempfile.TemporaryDirectory() as scratch:
+        folder = Path(scratch)
+        copied(folder)
+        change(folder / "tests" / name, old, new)
+        if blocks:
+            change(folder / "tests" / "scale_files.py", "MANY_VARIANTS_EVERY = 1000", "MANY_VARIANTS_EVERY = 10")
+        words = [sys.executable, str(folder / "tests" / "scale.py"), "--files", str(files), "--seed", str(seed)]
+        said = subprocess.run(words, stdout=subprocess.PIPE, text=True).stdout
+    first = re.search(r"DISAGREEMENT: seed \d+, file (\d+), (.*)", said)
+    count = re.search(r": (\d+) disagreements, \d+ s$", said)
+    return int(count.group(1)) if count else 0, first.groups() if first else None
+
+
+def main():
+    """Every wrong rule."""
+    parser = argparse.ArgumentParser(description=__doc__.splitlines()[0])
+    parser.add_argument("--files", type=int, default=800)
+    parser.add_argument("--seed", type=int, default=1)
+    parser.add_argument("--only", default="", help="only what has these words")
+    words = parser.parse_args()
+    chosen = [each for each in WRONG if words.only in each[0]]
+    missed = 0
+    for what, name, old, new, blocks in chosen:
+        count, first = seen(name, old, new, blocks, words.files, words.seed)
+        missed += count == 0
+        where = f"first in file {first[0]}, {first[1]}" if first else "NOT SEEN"
+        print(f"{what}: {count} of {7 * words.files} calls disagree, {where}", flush=True)
+    print(f"{len(chosen) - missed} passed, {missed} failed")
+    return 1 if missed else 0
+
+
+if __name__ == "__main__":
+    sys.exit(main())

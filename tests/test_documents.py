@@ -1,0 +1,64 @@
+"""The documents name what is there: files, must-fail edits, definitions and theorems."""
+import re
+import unittest
+from pathlib import Path
+
+ROOT = Path(__file__).resolve().parent.parent
+DOCUMENTS = sorted([ROOT / "README.md", *(ROOT / "docs").glob("*.md"), *(ROOT / "tests").rglob("*.md")])
+# Documents that name definitions and theorems. The others speak of plink2's options too, which look alike.
+OF_NAMES = ("THEOREMS.md", "SCOPE-TRACE.md", "DECISIONS.md", "ARCHITECTURE.md")
+
+
+def spans(document):
+    """What stands between backticks, outside of indented examples."""
+    lines = [line for line in document.read_text(encoding="utf-8").splitlines() if not line.startswith("    ")]
+    return re.findall(r"`([^`\n]+)`", "\n".join(lines))
+
+
+def sources():
+    return [f for f in (ROOT / "crates").rglob("*") if f.suffix in (".antt", ".rt")]
+
+
+def edits():
+    return {f"{f.parent.parent.name}/{f.stem}" for f in (ROOT / "crates").glob("*/must-fail/*.edit")}
+
+
+class Documents(unittest.TestCase):
+    def test_files_are_there(self):
+        for document in DOCUMENTS:
+            for span in spans(document):
+                if re.fullmatch(r"(crates|docs|tests|bench|examples|tools)/[\w./+-]+", span) and not re.search(r"CRATE|NAME", span):
+                    path = ROOT / span
+                    self.assertTrue(path.exists() or path.with_name(path.name + ".antt").exists(), f"{document.name}: {span}")
+
+    def test_edits_are_there(self):
+        folders = {f.name for f in ROOT.iterdir() if f.is_dir()}
+        for document in DOCUMENTS:
+            for span in spans(document):
+                if re.fullmatch(r"[a-z]+/[a-z0-9_]+", span) and span.split("/")[0] not in folders:
+                    self.assertTrue(span in edits(), f"{document.name}: {span}")
+
+    def test_every_edit_is_listed(self):
+        listed = set(spans(ROOT / "docs" / "THEOREMS.md"))
+        for edit in edits():
+            self.assertTrue(edit in listed or edit.split("/")[1] in listed, f"THEOREMS.md does not list {edit}")
+
+    def test_every_crate_has_its_place(self):
+        told = set(spans(ROOT / "docs" / "ARCHITECTURE.md"))
+        for line in (ROOT / "crates.txt").read_text(encoding="utf-8").splitlines():
+            if not line.startswith("#"):
+                self.assertTrue(line.split(":")[0] in told, f"ARCHITECTURE.md does not tell of {line}")
+
+    def test_names_are_there(self):
+        words = set()
+        for source in sources():
+            words.update(re.findall(r"[A-Za-z][A-Za-z0-9-]*", source.read_text(encoding="utf-8")))
+        for document in DOCUMENTS:
+            if document.name in OF_NAMES:
+                for span in spans(document):
+                    if re.fullmatch(r"[a-z][a-z0-9]*(-[a-z0-9]+)+", span):
+                        self.assertTrue(span in words, f"{document.name}: {span}")
+
+
+if __name__ == "__main__":
+    unittest.main()
