@@ -69,23 +69,28 @@ static void get(const char *path, u8 *p, usize size)
     close(from);
 }
 
-// The categories of each row counted, rows from the library, counts by a plain C loop.
+// How many bytes of a row are `category`: by 255 at a time, so that a byte counts them and the compiler makes a vector loop.
+static usize count_of(const u8 *row, usize n, u8 category)
+{
+    usize count = 0;
+    for (usize from = 0; from < n; from += 255) {
+        usize to = n - from < 255 ? n : from + 255;
+        u8 few = 0;
+        for (usize i = from; i < to; i++) few += row[i] == category;
+        count += few;
+    }
+    return count;
+}
+
+// The categories of each row counted, rows from the library, counts in C.
 static void count_all(struct file file, u8 *work_area)
 {
     static u8 row[65536];
     static volatile usize counts[4];
     struct rows r = timed_start_rows(file.bytes, file.size, work_area, 65536);
     for (usize v = 0; v < file.variants && r.refusal == 0; v++) {
-        u32 ones = 0, twos = 0, threes = 0;
         r = timed_next_row(r, file.bytes, file.size, row, sizeof row, work_area, 65536);
-        for (usize i = 0; i < file.samples; i++) {
-            ones += row[i] == 1;
-            twos += row[i] == 2;
-            threes += row[i] == 3;
-        }
-        counts[1] = ones;
-        counts[2] = twos;
-        counts[3] = threes;
+        for (u8 category = 1; category < 4; category++) counts[category] = count_of(row, file.samples, category);
     }
     if (r.refusal) fail("rows of the file on disk");
 }
