@@ -64,6 +64,7 @@ fn put_rows(
     filled
 }
 
+// The whole-file check has accepted the file with this work area, so that no call here is refused.
 fn put_variants(file: &[u8], work: &mut [u8], row: &mut [u8], out: &mut [u8], at: usize) -> usize
     requires { ⌜ length (now row) ≡ 65536 ⌝ }
 {
