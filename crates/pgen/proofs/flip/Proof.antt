@@ -25,8 +25,12 @@ enum-known-found-2 c = search needs
 
 add-if1 : tie.Need-add-if1
 add-if1 c =
-    let a = c .before .before .before .before .before .before .before .before .args in
-    omega (arith, few (now (a .file)) (now (a .set)) (now (a .work)) (all-bytes (now (a .file)) (λ i. (c .before .before .before .before .before .before .before .slice-known .given) i .fits)) ((c .before .before .before .check .result)) ((c .before .before .before .check .ensures)) ((c .before .found2 .given .0 .0)) ((c .before .found2 .given .0 .1 .0)) ((c .before .found2 .given .0 .1 .1 .0)) ((c .before .found2 .given .0 .1 .1 .1 .0)) ((c .before .found2 .given .1)))
+    let args = c .before .before .before .before .before .before .before .before .args in
+    let slice-known = c .before .before .before .before .before .before .before .slice-known in
+    let check = c .before .before .before .check in
+    let found2 = c .before .found2 in
+    omega
+    (arith, few (now (args .file)) (now (args .set)) (now (args .work)) (all-bytes (now (args .file)) (λ i. (slice-known .given) i .fits)) (check .result) (check .ensures) (found2 .given .0 .0) (found2 .given .0 .1 .0) (found2 .given .0 .1 .1 .0) (found2 .given .0 .1 .1 .1 .0) (found2 .given .1))
 
 refused-requires : tie.Need-refused-requires
 refused-requires c κs = search needs
@@ -36,8 +40,14 @@ same-length c = search needs
 
 returns : tie.Need-returns
 returns c =
-    let a = c .before .before .before .before .before .before .before .before .before .before .args in
-    ap (λ (z : Reply). flip-left z (now (a .file)) (now (a .work))) ((c .refused .ensures)) ∙ wrong-set (now (a .file)) (now (a .set)) (now (a .work)) (all-bytes (now (a .file)) (λ i. (c .before .before .before .before .before .before .before .before .before .slice-known .given) i .fits)) ((c .before .before .before .before .before .check .result)) ((c .before .before .before .before .before .check .ensures)) ((c .before .before .before .found2 .given .0 .0)) ((c .before .before .before .found2 .given .0 .1 .0)) ((c .before .before .before .found2 .given .0 .1 .1 .0)) ((c .before .before .before .found2 .given .0 .1 .1 .1 .0)) ((c .before .before .before .found2 .given .1)) ((c .before .if1 .taken))
+    let args = c .before .before .before .before .before .before .before .before .before .before .args in
+    let slice-known = c .before .before .before .before .before .before .before .before .before .slice-known in
+    let check = c .before .before .before .before .before .check in
+    let found2 = c .before .before .before .found2 in
+    let if1 = c .before .if1 in
+    ap (λ (z : Reply). flip-left z (now (args .file)) (now (args .work))) (c .refused .ensures) ∙ wrong-set (now (args .file)) (now (args .set))
+    (now (args .work)) (all-bytes (now (args .file)) (λ i. (slice-known .given) i .fits)) (check .result) (check .ensures) (found2 .given .0 .0)
+    (found2 .given .0 .1 .0) (found2 .given .0 .1 .1 .0) (found2 .given .0 .1 .1 .1 .0) (found2 .given .1) (if1 .taken)
 
 refused-requires-2 : tie.Need-refused-requires-2
 refused-requires-2 c κs = search needs
@@ -47,8 +57,15 @@ same-length-2 c = search needs
 
 returns-2 : tie.Need-returns-2
 returns-2 c =
-    let a = c .before .before .before .before .before .before .before .before .before .before .before .args in
-    ap (λ (z : Reply). flip-left z (now (a .file)) (now (a .work))) ((c .refused2 .ensures)) ∙ short-work (now (a .file)) (now (a .set)) (now (a .work)) (all-bytes (now (a .file)) (λ i. (c .before .before .before .before .before .before .before .before .before .before .slice-known .given) i .fits)) ((c .before .before .before .before .before .before .check .result)) ((c .before .before .before .before .before .before .check .ensures)) ((c .before .before .before .before .found2 .given .0 .0)) ((c .before .before .before .before .found2 .given .0 .1 .0)) ((c .before .before .before .before .found2 .given .0 .1 .1 .0)) ((c .before .before .before .before .found2 .given .0 .1 .1 .1 .0)) ((c .before .before .before .before .found2 .given .1)) ((c .before .before .if1 .left)) ((c .before .if2 .taken))
+    let args = c .before .before .before .before .before .before .before .before .before .before .before .args in
+    let slice-known = c .before .before .before .before .before .before .before .before .before .before .slice-known in
+    let check = c .before .before .before .before .before .before .check in
+    let found2 = c .before .before .before .before .found2 in
+    let if1 = c .before .before .if1 in
+    let if2 = c .before .if2 in
+    ap (λ (z : Reply). flip-left z (now (args .file)) (now (args .work))) (c .refused2 .ensures) ∙ short-work (now (args .file)) (now (args .set))
+    (now (args .work)) (all-bytes (now (args .file)) (λ i. (slice-known .given) i .fits)) (check .result) (check .ensures) (found2 .given .0 .0)
+    (found2 .given .0 .1 .0) (found2 .given .0 .1 .1 .0) (found2 .given .0 .1 .1 .1 .0) (found2 .given .1) (if1 .left) (if2 .taken)
 
 past-last-requires : tie.Need-past-last-requires
 past-last-requires c κs = search needs
@@ -61,13 +78,30 @@ same-length-3 c = search needs
 
 returns-3 : tie.Need-returns-3
 returns-3 c =
-    let a = c .before .before .before .before .before .before .before .before .before .before .before .before .before .args in
-    ap (λ (z : Reply). flip-left z (now (a .file)) (now (a .work))) ((c .refused3 .ensures)) ∙ bits-past (now (a .file)) (now (a .set)) (now (a .work)) (all-bytes (now (a .file)) (λ i. (c .before .before .before .before .before .before .before .before .before .before .before .before .slice-known .given) i .fits)) ((c .before .before .before .before .before .before .before .before .check .result)) ((c .before .before .before .before .before .before .before .before .check .ensures)) ((c .before .before .before .before .before .before .found2 .given .0 .0)) ((c .before .before .before .before .before .before .found2 .given .0 .1 .0)) ((c .before .before .before .before .before .before .found2 .given .0 .1 .1 .0)) ((c .before .before .before .before .before .before .found2 .given .0 .1 .1 .1 .0)) ((c .before .before .before .before .before .before .found2 .given .1)) ((c .before .before .before .before .if1 .left)) (omega (arith, (c .before .before .before .if2 .left))) (λ z. (c .before .if3 .taken) ((c .before .before .past-last .ensures) ∙ z))
+    let args = c .before .before .before .before .before .before .before .before .before .before .before .before .before .args in
+    let slice-known = c .before .before .before .before .before .before .before .before .before .before .before .before .slice-known in
+    let check = c .before .before .before .before .before .before .before .before .check in
+    let found2 = c .before .before .before .before .before .before .found2 in
+    let if1 = c .before .before .before .before .if1 in
+    let if2 = c .before .before .before .if2 in
+    let if3 = c .before .if3 in
+    let past-last = c .before .before .past-last in
+    ap (λ (z : Reply). flip-left z (now (args .file)) (now (args .work))) (c .refused3 .ensures) ∙ bits-past (now (args .file)) (now (args .set))
+    (now (args .work)) (all-bytes (now (args .file)) (λ i. (slice-known .given) i .fits)) (check .result) (check .ensures) (found2 .given .0 .0)
+    (found2 .given .0 .1 .0) (found2 .given .0 .1 .1 .0) (found2 .given .0 .1 .1 .1 .0) (found2 .given .1) (if1 .left) (omega (arith, (if2 .left)))
+    (λ z. (if3 .taken) ((past-last .ensures) ∙ z))
 
 check-records-requires : tie.Need-check-records-requires
 check-records-requires c κs =
-    let a = c .before .before .before .before .before .before .before .before .before .before .before .before .before .before .args in
-    has-row (now (a .file)) (now (a .set)) (now (a .work)) (all-bytes (now (a .file)) (λ i. (c .before .before .before .before .before .before .before .before .before .before .before .before .before .slice-known .given) i .fits)) ((c .before .before .before .before .before .before .before .before .before .check .result)) ((c .before .before .before .before .before .before .before .before .before .check .ensures)) ((c .before .before .before .before .before .before .before .found2 .given .0 .0)) ((c .before .before .before .before .before .before .before .found2 .given .0 .1 .0)) ((c .before .before .before .before .before .before .before .found2 .given .0 .1 .1 .0)) ((c .before .before .before .before .before .before .before .found2 .given .0 .1 .1 .1 .0)) ((c .before .before .before .before .before .before .before .found2 .given .1)) ((c .before .before .before .before .before .if1 .left)) (omega (arith, (c .before .before .before .before .if2 .left)))
+    let args = c .before .before .before .before .before .before .before .before .before .before .before .before .before .before .args in
+    let slice-known = c .before .before .before .before .before .before .before .before .before .before .before .before .before .slice-known in
+    let check = c .before .before .before .before .before .before .before .before .before .check in
+    let found2 = c .before .before .before .before .before .before .before .found2 in
+    let if1 = c .before .before .before .before .before .if1 in
+    let if2 = c .before .before .before .before .if2 in
+    has-row (now (args .file)) (now (args .set)) (now (args .work)) (all-bytes (now (args .file)) (λ i. (slice-known .given) i .fits)) (check .result)
+    (check .ensures) (found2 .given .0 .0) (found2 .given .0 .1 .0) (found2 .given .0 .1 .1 .0) (found2 .given .0 .1 .1 .1 .0) (found2 .given .1)
+    (if1 .left) (omega (arith, (if2 .left)))
 
 enum-known-got : tie.Need-enum-known-got
 enum-known-got c = search needs
@@ -77,16 +111,32 @@ enum-told c = search needs
 
 flip-accepted-requires : tie.Need-flip-accepted-requires
 flip-accepted-requires c κs =
-    let a = c .before .before .before .before .before .before .before .before .before .before .before .before .before .before .before .before .before .before .before .before .args in
-    whole-accepted (now (a .file)) (now (a .set)) (now (a .work)) (all-bytes (now (a .file)) (λ i. (c .before .before .before .before .before .before .before .before .before .before .before .before .before .before .before .before .before .before .before .slice-known .given) i .fits)) ((c .before .before .before .before .before .before .before .before .before .before .before .before .before .before .before .check .result)) ((c .before .before .before .before .before .before .before .before .before .before .before .before .before .before .before .check .ensures)) ((c .before .before .before .before .before .before .before .before .before .before .before .before .before .found2 .given .0 .0)) ((c .before .before .before .before .before .before .before .before .before .before .before .before .before .found2 .given .0 .1 .0)) ((c .before .before .before .before .before .before .before .before .before .before .before .before .before .found2 .given .0 .1 .1 .0)) ((c .before .before .before .before .before .before .before .before .before .before .before .before .before .found2 .given .0 .1 .1 .1 .0)) ((c .before .before .before .before .before .before .before .before .before .before .before .before .before .found2 .given .1)) ((c .before .before .before .before .before .before .before .before .before .before .before .if1 .left)) (omega (arith, (c .before .before .before .before .before .before .before .before .before .before .if2 .left))) (sym ((c .before .before .before .before .before .before .before .before .before .past-last .ensures)) ∙ (c .before .before .before .before .before .before .before .before .if3 .left)) ((c .before .before .before .before .before .check-records .result)) ((c .before .before .before .before .before .check-records .last .1 .0)) ((c .before .before .before .before .before .check-records .ensures)) ((c .before .enum-told .given .1))
+    let args = c .before .before .before .before .before .before .before .before .before .before .before .before .before .before .before .before .before .before .before .before .args in
+    let slice-known = c .before .before .before .before .before .before .before .before .before .before .before .before .before .before .before .before .before .before .before .slice-known in
+    let check = c .before .before .before .before .before .before .before .before .before .before .before .before .before .before .before .check in
+    let found2 = c .before .before .before .before .before .before .before .before .before .before .before .before .before .found2 in
+    let if1 = c .before .before .before .before .before .before .before .before .before .before .before .if1 in
+    let if2 = c .before .before .before .before .before .before .before .before .before .before .if2 in
+    let past-last = c .before .before .before .before .before .before .before .before .before .past-last in
+    let if3 = c .before .before .before .before .before .before .before .before .if3 in
+    let check-records = c .before .before .before .before .before .check-records in
+    let enum-told = c .before .enum-told in
+    whole-accepted (now (args .file)) (now (args .set)) (now (args .work)) (all-bytes (now (args .file)) (λ i. (slice-known .given) i .fits))
+    (check .result) (check .ensures) (found2 .given .0 .0) (found2 .given .0 .1 .0) (found2 .given .0 .1 .1 .0) (found2 .given .0 .1 .1 .1 .0)
+    (found2 .given .1) (if1 .left) (omega (arith, (if2 .left))) (sym (past-last .ensures) ∙ (if3 .left)) (check-records .result)
+    (check-records .last .1 .0) (check-records .ensures) (enum-told .given .1)
 
 same-length-4 : tie.Need-same-length-4
 same-length-4 c = search needs
 
 returns-4 : tie.Need-returns-4
 returns-4 c =
-    let a = c .before .before .before .before .before .before .before .before .args in
-    flip-header-refused (now (a .file)) (now (a .set)) (now (a .work)) (all-bytes (now (a .file)) (λ i. (c .before .before .before .before .before .before .before .slice-known .given) i .fits)) ((c .before .before .before .check .result)) ((c .before .before .before .check .ensures)) ((c .before .found .given .0 .0)) ((c .before .found .given .0 .1 .0)) ((c .before .found .given .1))
+    let args = c .before .before .before .before .before .before .before .before .args in
+    let slice-known = c .before .before .before .before .before .before .before .slice-known in
+    let check = c .before .before .before .check in
+    let found = c .before .found in
+    flip-header-refused (now (args .file)) (now (args .set)) (now (args .work)) (all-bytes (now (args .file)) (λ i. (slice-known .given) i .fits))
+    (check .result) (check .ensures) (found .given .0 .0) (found .given .0 .1 .0) (found .given .1)
 
 same-length-5 : tie.Need-same-length-5
 same-length-5 c = search needs
@@ -96,8 +146,20 @@ same-length-6 c = search needs
 
 returns-5 : tie.Need-returns-5
 returns-5 c =
-    let a = c .before .before .before .before .before .before .before .before .before .before .before .before .before .before .before .before .before .before .before .before .args in
-    flip-records-refused (now (a .file)) (now (a .set)) (now (a .work)) (all-bytes (now (a .file)) (λ i. (c .before .before .before .before .before .before .before .before .before .before .before .before .before .before .before .before .before .before .before .slice-known .given) i .fits)) ((c .before .before .before .before .before .before .before .before .before .before .before .before .before .before .before .check .result)) ((c .before .before .before .before .before .before .before .before .before .before .before .before .before .before .before .check .ensures)) ((c .before .before .before .before .before .before .before .before .before .before .before .before .before .found2 .given .0 .0)) ((c .before .before .before .before .before .before .before .before .before .before .before .before .before .found2 .given .0 .1 .0)) ((c .before .before .before .before .before .before .before .before .before .before .before .before .before .found2 .given .0 .1 .1 .0)) ((c .before .before .before .before .before .before .before .before .before .before .before .before .before .found2 .given .0 .1 .1 .1 .0)) ((c .before .before .before .before .before .before .before .before .before .before .before .before .before .found2 .given .1)) ((c .before .before .before .before .before .before .before .before .before .before .before .if1 .left)) (omega (arith, (c .before .before .before .before .before .before .before .before .before .before .if2 .left))) (sym ((c .before .before .before .before .before .before .before .before .before .past-last .ensures)) ∙ (c .before .before .before .before .before .before .before .before .if3 .left)) ((c .before .before .before .before .before .check-records .result)) ((c .before .before .before .before .before .check-records .last .1 .0)) ((c .before .before .before .before .before .check-records .ensures)) ((c .before .got .given .0 .0)) ((c .before .got .given .0 .1 .0)) ((c .before .got .given .1))
+    let args = c .before .before .before .before .before .before .before .before .before .before .before .before .before .before .before .before .before .before .before .before .args in
+    let slice-known = c .before .before .before .before .before .before .before .before .before .before .before .before .before .before .before .before .before .before .before .slice-known in
+    let check = c .before .before .before .before .before .before .before .before .before .before .before .before .before .before .before .check in
+    let found2 = c .before .before .before .before .before .before .before .before .before .before .before .before .before .found2 in
+    let if1 = c .before .before .before .before .before .before .before .before .before .before .before .if1 in
+    let if2 = c .before .before .before .before .before .before .before .before .before .before .if2 in
+    let past-last = c .before .before .before .before .before .before .before .before .before .past-last in
+    let if3 = c .before .before .before .before .before .before .before .before .if3 in
+    let check-records = c .before .before .before .before .before .check-records in
+    let got = c .before .got in
+    flip-records-refused (now (args .file)) (now (args .set)) (now (args .work)) (all-bytes (now (args .file)) (λ i. (slice-known .given) i .fits))
+    (check .result) (check .ensures) (found2 .given .0 .0) (found2 .given .0 .1 .0) (found2 .given .0 .1 .1 .0) (found2 .given .0 .1 .1 .1 .0)
+    (found2 .given .1) (if1 .left) (omega (arith, (if2 .left))) (sym (past-last .ensures) ∙ (if3 .left)) (check-records .result)
+    (check-records .last .1 .0) (check-records .ensures) (got .given .0 .0) (got .given .0 .1 .0) (got .given .1)
 
 same-length-7 : tie.Need-same-length-7
 same-length-7 c = search needs
@@ -107,8 +169,21 @@ same-length-8 c = search needs
 
 returns-6 : tie.Need-returns-6
 returns-6 c =
-    let a = c .before .before .before .before .before .before .before .before .before .before .before .before .before .before .before .before .before .before .before .before .before .before .before .args in
-    ap (λ (z : List ℕ). flip-left Accepted z ((c .before .before .before .before .before .before .before .before .check-records .last .1 .0))) ((c .before .before .flip-accepted .ensures)) ∙ flipped-call (now (a .file)) (now (a .set)) (now (a .work)) (all-bytes (now (a .file)) (λ i. (c .before .before .before .before .before .before .before .before .before .before .before .before .before .before .before .before .before .before .before .before .before .before .slice-known .given) i .fits)) ((c .before .before .before .before .before .before .before .before .before .before .before .before .before .before .before .before .before .before .check .result)) ((c .before .before .before .before .before .before .before .before .before .before .before .before .before .before .before .before .before .before .check .ensures)) ((c .before .before .before .before .before .before .before .before .before .before .before .before .before .before .before .before .found2 .given .0 .0)) ((c .before .before .before .before .before .before .before .before .before .before .before .before .before .before .before .before .found2 .given .0 .1 .0)) ((c .before .before .before .before .before .before .before .before .before .before .before .before .before .before .before .before .found2 .given .0 .1 .1 .0)) ((c .before .before .before .before .before .before .before .before .before .before .before .before .before .before .before .before .found2 .given .0 .1 .1 .1 .0)) ((c .before .before .before .before .before .before .before .before .before .before .before .before .before .before .before .before .found2 .given .1)) ((c .before .before .before .before .before .before .before .before .before .before .before .before .before .before .if1 .left)) (omega (arith, (c .before .before .before .before .before .before .before .before .before .before .before .before .before .if2 .left))) (sym ((c .before .before .before .before .before .before .before .before .before .before .before .before .past-last .ensures)) ∙ (c .before .before .before .before .before .before .before .before .before .before .before .if3 .left)) ((c .before .before .before .before .before .before .before .before .check-records .result)) ((c .before .before .before .before .before .before .before .before .check-records .last .1 .0)) ((c .before .before .before .before .before .before .before .before .check-records .ensures)) ((c .before .before .before .before .enum-told .given .1))
+    let check-records = c .before .before .before .before .before .before .before .before .check-records in
+    let flip-accepted = c .before .before .flip-accepted in
+    let args = c .before .before .before .before .before .before .before .before .before .before .before .before .before .before .before .before .before .before .before .before .before .before .before .args in
+    let slice-known = c .before .before .before .before .before .before .before .before .before .before .before .before .before .before .before .before .before .before .before .before .before .before .slice-known in
+    let check = c .before .before .before .before .before .before .before .before .before .before .before .before .before .before .before .before .before .before .check in
+    let found2 = c .before .before .before .before .before .before .before .before .before .before .before .before .before .before .before .before .found2 in
+    let if1 = c .before .before .before .before .before .before .before .before .before .before .before .before .before .before .if1 in
+    let if2 = c .before .before .before .before .before .before .before .before .before .before .before .before .before .if2 in
+    let past-last = c .before .before .before .before .before .before .before .before .before .before .before .before .past-last in
+    let if3 = c .before .before .before .before .before .before .before .before .before .before .before .if3 in
+    let enum-told = c .before .before .before .before .enum-told in
+    ap (λ (z : List ℕ). flip-left Accepted z (check-records .last .1 .0)) (flip-accepted .ensures) ∙ flipped-call (now (args .file)) (now (args .set))
+    (now (args .work)) (all-bytes (now (args .file)) (λ i. (slice-known .given) i .fits)) (check .result) (check .ensures) (found2 .given .0 .0)
+    (found2 .given .0 .1 .0) (found2 .given .0 .1 .1 .0) (found2 .given .0 .1 .1 .1 .0) (found2 .given .1) (if1 .left) (omega (arith, (if2 .left)))
+    (sym (past-last .ensures) ∙ (if3 .left)) (check-records .result) (check-records .last .1 .0) (check-records .ensures) (enum-told .given .1)
 
 pub flip-spec : {M : Type 1} → statement M
 flip-spec =

@@ -28,29 +28,59 @@ refused-requires c κs = search needs
 
 returns : tie.Need-returns
 returns c =
-    let a = c .before .before .before .before .before .before .before .before .before .args in
-    ap (λ (z : Reply). read-left z (now (a .output)) (now (a .work))) ((c .refused .ensures)) ∙ read-short-output (now (a .file)) (a .variant) (now (a .work)) (all-bytes (now (a .file)) (λ i. (c .before .before .before .before .before .before .before .before .shared-slice-known .given) i .fits)) ((c .before .before .before .before .before .check .result)) ((c .before .before .before .before .before .check .ensures)) ((c .before .before .before .found2 .given .0 .0)) ((c .before .before .before .found2 .given .0 .1 .0)) ((c .before .before .before .found2 .given .0 .1 .1 .0)) ((c .before .before .before .found2 .given .0 .1 .1 .1 .0)) ((c .before .before .before .found2 .given .1)) (now (a .output)) ((c .before .if1 .taken))
+    let args = c .before .before .before .before .before .before .before .before .before .args in
+    let shared-slice-known = c .before .before .before .before .before .before .before .before .shared-slice-known in
+    let check = c .before .before .before .before .before .check in
+    let found2 = c .before .before .before .found2 in
+    let if1 = c .before .if1 in
+    ap (λ (z : Reply). read-left z (now (args .output)) (now (args .work))) (c .refused .ensures) ∙ read-short-output (now (args .file)) (args .variant)
+    (now (args .work)) (all-bytes (now (args .file)) (λ i. (shared-slice-known .given) i .fits)) (check .result) (check .ensures) (found2 .given .0 .0)
+    (found2 .given .0 .1 .0) (found2 .given .0 .1 .1 .0) (found2 .given .0 .1 .1 .1 .0) (found2 .given .1) (now (args .output)) (if1 .taken)
 
 refused-requires-2 : tie.Need-refused-requires-2
 refused-requires-2 c κs = search needs
 
 returns-2 : tie.Need-returns-2
 returns-2 c =
-    let a = c .before .before .before .before .before .before .before .before .before .before .args in
-    ap (λ (z : Reply). read-left z (now (a .output)) (now (a .work))) ((c .refused2 .ensures)) ∙ read-short-work (now (a .file)) (a .variant) (now (a .work)) (all-bytes (now (a .file)) (λ i. (c .before .before .before .before .before .before .before .before .before .shared-slice-known .given) i .fits)) ((c .before .before .before .before .before .before .check .result)) ((c .before .before .before .before .before .before .check .ensures)) ((c .before .before .before .before .found2 .given .0 .0)) ((c .before .before .before .before .found2 .given .0 .1 .0)) ((c .before .before .before .before .found2 .given .0 .1 .1 .0)) ((c .before .before .before .before .found2 .given .0 .1 .1 .1 .0)) ((c .before .before .before .before .found2 .given .1)) (now (a .output)) (omega (arith, (c .before .before .if1 .left))) ((c .before .if2 .taken))
+    let args = c .before .before .before .before .before .before .before .before .before .before .args in
+    let shared-slice-known = c .before .before .before .before .before .before .before .before .before .shared-slice-known in
+    let check = c .before .before .before .before .before .before .check in
+    let found2 = c .before .before .before .before .found2 in
+    let if1 = c .before .before .if1 in
+    let if2 = c .before .if2 in
+    ap (λ (z : Reply). read-left z (now (args .output)) (now (args .work))) (c .refused2 .ensures) ∙ read-short-work (now (args .file)) (args .variant)
+    (now (args .work)) (all-bytes (now (args .file)) (λ i. (shared-slice-known .given) i .fits)) (check .result) (check .ensures) (found2 .given .0 .0)
+    (found2 .given .0 .1 .0) (found2 .given .0 .1 .1 .0) (found2 .given .0 .1 .1 .1 .0) (found2 .given .1) (now (args .output))
+    (omega (arith, (if1 .left))) (if2 .taken)
 
 refused-requires-3 : tie.Need-refused-requires-3
 refused-requires-3 c κs = search needs
 
 returns-3 : tie.Need-returns-3
 returns-3 c =
-    let a = c .before .before .before .before .before .before .before .before .before .before .before .before .args in
-    ap (λ (z : Reply). read-left z (now (a .output)) (now (a .work))) ((c .refused3 .ensures)) ∙ read-no-variant (now (a .file)) (a .variant) (now (a .work)) (all-bytes (now (a .file)) (λ i. (c .before .before .before .before .before .before .before .before .before .before .before .shared-slice-known .given) i .fits)) ((c .before .before .before .before .before .before .before .before .check .result)) ((c .before .before .before .before .before .before .before .before .check .ensures)) ((c .before .before .before .before .before .before .found2 .given .0 .0)) ((c .before .before .before .before .before .before .found2 .given .0 .1 .0)) ((c .before .before .before .before .before .before .found2 .given .0 .1 .1 .0)) ((c .before .before .before .before .before .before .found2 .given .0 .1 .1 .1 .0)) ((c .before .before .before .before .before .before .found2 .given .1)) (omega (arith, (c .before .before .before .if2 .left))) (now (a .output)) (omega (arith, (c .before .before .before .before .if1 .left))) ((c .before .if3 .taken))
+    let args = c .before .before .before .before .before .before .before .before .before .before .before .before .args in
+    let shared-slice-known = c .before .before .before .before .before .before .before .before .before .before .before .shared-slice-known in
+    let check = c .before .before .before .before .before .before .before .before .check in
+    let found2 = c .before .before .before .before .before .before .found2 in
+    let if2 = c .before .before .before .if2 in
+    let if1 = c .before .before .before .before .if1 in
+    let if3 = c .before .if3 in
+    ap (λ (z : Reply). read-left z (now (args .output)) (now (args .work))) (c .refused3 .ensures) ∙ read-no-variant (now (args .file)) (args .variant)
+    (now (args .work)) (all-bytes (now (args .file)) (λ i. (shared-slice-known .given) i .fits)) (check .result) (check .ensures) (found2 .given .0 .0)
+    (found2 .given .0 .1 .0) (found2 .given .0 .1 .1 .0) (found2 .given .0 .1 .1 .1 .0) (found2 .given .1) (omega (arith, (if2 .left)))
+    (now (args .output)) (omega (arith, (if1 .left))) (if3 .taken)
 
 read-row-requires : tie.Need-read-row-requires
 read-row-requires c κs =
-    let a = c .before .before .before .before .before .before .before .before .before .before .before .before .args in
-    has-variant-row (now (a .file)) (a .variant) (now (a .work)) (all-bytes (now (a .file)) (λ i. (c .before .before .before .before .before .before .before .before .before .before .before .shared-slice-known .given) i .fits)) ((c .before .before .before .before .before .before .before .before .check .result)) ((c .before .before .before .before .before .before .before .before .check .ensures)) ((c .before .before .before .before .before .before .found2 .given .0 .0)) ((c .before .before .before .before .before .before .found2 .given .0 .1 .0)) ((c .before .before .before .before .before .before .found2 .given .0 .1 .1 .0)) ((c .before .before .before .before .before .before .found2 .given .0 .1 .1 .1 .0)) ((c .before .before .before .before .before .before .found2 .given .1)) (omega (arith, (c .before .before .before .if2 .left))) (omega (arith, (c .before .if3 .left)))
+    let args = c .before .before .before .before .before .before .before .before .before .before .before .before .args in
+    let shared-slice-known = c .before .before .before .before .before .before .before .before .before .before .before .shared-slice-known in
+    let check = c .before .before .before .before .before .before .before .before .check in
+    let found2 = c .before .before .before .before .before .before .found2 in
+    let if2 = c .before .before .before .if2 in
+    let if3 = c .before .if3 in
+    has-variant-row (now (args .file)) (args .variant) (now (args .work)) (all-bytes (now (args .file)) (λ i. (shared-slice-known .given) i .fits))
+    (check .result) (check .ensures) (found2 .given .0 .0) (found2 .given .0 .1 .0) (found2 .given .0 .1 .1 .0) (found2 .given .0 .1 .1 .1 .0)
+    (found2 .given .1) (omega (arith, if2 .left)) (omega (arith, if3 .left))
 
 enum-known-got : tie.Need-enum-known-got
 enum-known-got c = search needs
@@ -66,16 +96,31 @@ clear-requires c κs = search needs
 
 returns-4 : tie.Need-returns-4
 returns-4 c =
-    let a = c .before .before .before .before .before .before .before .args in
-    read-header-refused (now (a .file)) (a .variant) (now (a .work)) (all-bytes (now (a .file)) (λ i. (c .before .before .before .before .before .before .shared-slice-known .given) i .fits)) ((c .before .before .before .check .result)) ((c .before .before .before .check .ensures)) (now (a .output)) ((c .before .found .given .0 .0)) ((c .before .found .given .0 .1 .0)) ((c .before .found .given .1))
+    let args = c .before .before .before .before .before .before .before .args in
+    let shared-slice-known = c .before .before .before .before .before .before .shared-slice-known in
+    let check = c .before .before .before .check in
+    let found = c .before .found in
+    read-header-refused (now (args .file)) (args .variant) (now (args .work)) (all-bytes (now (args .file)) (λ i. (shared-slice-known .given) i .fits))
+    (check .result) (check .ensures) (now (args .output)) (found .given .0 .0) (found .given .0 .1 .0) (found .given .1)
 
 same-length : tie.Need-same-length
 same-length c = search needs
 
 returns-5 : tie.Need-returns-5
 returns-5 c =
-    let a = c .before .before .before .before .before .before .before .before .before .before .before .before .before .before .before .before .before .before .args in
-    read-refused (now (a .file)) (a .variant) (now (a .work)) (all-bytes (now (a .file)) (λ i. (c .before .before .before .before .before .before .before .before .before .before .before .before .before .before .before .before .before .shared-slice-known .given) i .fits)) ((c .before .before .before .before .before .before .before .before .before .before .before .before .before .before .check .result)) ((c .before .before .before .before .before .before .before .before .before .before .before .before .before .before .check .ensures)) ((c .before .before .before .before .before .before .before .before .before .before .before .before .found2 .given .0 .0)) ((c .before .before .before .before .before .before .before .before .before .before .before .before .found2 .given .0 .1 .0)) ((c .before .before .before .before .before .before .before .before .before .before .before .before .found2 .given .0 .1 .1 .0)) ((c .before .before .before .before .before .before .before .before .before .before .before .before .found2 .given .0 .1 .1 .1 .0)) ((c .before .before .before .before .before .before .before .before .before .before .before .before .found2 .given .1)) (omega (arith, (c .before .before .before .before .before .before .before .before .before .if2 .left))) (omega (arith, (c .before .before .before .before .before .before .before .if3 .left))) ((c .before .before .before .before .before .read-row .result)) ((c .before .before .before .before .before .read-row .last .1 .1 .1 .0)) (search needs) ((c .before .before .before .before .before .read-row .ensures)) (now (a .output)) (omega (arith, (c .before .before .before .before .before .before .before .before .before .before .if1 .left))) ((c .before .got .given .0 .0)) ((c .before .got .given .0 .1 .0)) ((c .before .got .given .1))
+    let args = c .before .before .before .before .before .before .before .before .before .before .before .before .before .before .before .before .before .before .args in
+    let shared-slice-known = c .before .before .before .before .before .before .before .before .before .before .before .before .before .before .before .before .before .shared-slice-known in
+    let check = c .before .before .before .before .before .before .before .before .before .before .before .before .before .before .check in
+    let found2 = c .before .before .before .before .before .before .before .before .before .before .before .before .found2 in
+    let if2 = c .before .before .before .before .before .before .before .before .before .if2 in
+    let if3 = c .before .before .before .before .before .before .before .if3 in
+    let read-row = c .before .before .before .before .before .read-row in
+    let if1 = c .before .before .before .before .before .before .before .before .before .before .if1 in
+    let got = c .before .got in
+    read-refused (now (args .file)) (args .variant) (now (args .work)) (all-bytes (now (args .file)) (λ i. (shared-slice-known .given) i .fits))
+    (check .result) (check .ensures) (found2 .given .0 .0) (found2 .given .0 .1 .0) (found2 .given .0 .1 .1 .0) (found2 .given .0 .1 .1 .1 .0)
+    (found2 .given .1) (omega (arith, (if2 .left))) (omega (arith, (if3 .left))) (read-row .result) (read-row .last .1 .1 .1 .0) (search needs)
+    (read-row .ensures) (now (args .output)) (omega (arith, (if1 .left))) (got .given .0 .0) (got .given .0 .1 .0) (got .given .1)
 
 same-length-2 : tie.Need-same-length-2
 same-length-2 c = search needs
@@ -85,8 +130,22 @@ same-length-3 c = search needs
 
 returns-6 : tie.Need-returns-6
 returns-6 c =
-    let a = c .before .before .before .before .before .before .before .before .before .before .before .before .before .before .before .before .before .before .before .before .before .before .before .before .before .before .args in
-    ap₂ (λ (o w : List ℕ). read-left Accepted o w) ((c .before .before .before .before .before .before .copy .ensures)) ((c .before .before .clear .ensures)) ∙ read-accepted (now (a .file)) (a .variant) (now (a .work)) (all-bytes (now (a .file)) (λ i. (c .before .before .before .before .before .before .before .before .before .before .before .before .before .before .before .before .before .before .before .before .before .before .before .before .before .shared-slice-known .given) i .fits)) ((c .before .before .before .before .before .before .before .before .before .before .before .before .before .before .before .before .before .before .before .before .before .before .check .result)) ((c .before .before .before .before .before .before .before .before .before .before .before .before .before .before .before .before .before .before .before .before .before .before .check .ensures)) ((c .before .before .before .before .before .before .before .before .before .before .before .before .before .before .before .before .before .before .before .before .found2 .given .0 .0)) ((c .before .before .before .before .before .before .before .before .before .before .before .before .before .before .before .before .before .before .before .before .found2 .given .0 .1 .0)) ((c .before .before .before .before .before .before .before .before .before .before .before .before .before .before .before .before .before .before .before .before .found2 .given .0 .1 .1 .0)) ((c .before .before .before .before .before .before .before .before .before .before .before .before .before .before .before .before .before .before .before .before .found2 .given .0 .1 .1 .1 .0)) ((c .before .before .before .before .before .before .before .before .before .before .before .before .before .before .before .before .before .before .before .before .found2 .given .1)) (omega (arith, (c .before .before .before .before .before .before .before .before .before .before .before .before .before .before .before .before .before .if2 .left))) (omega (arith, (c .before .before .before .before .before .before .before .before .before .before .before .before .before .before .before .if3 .left))) ((c .before .before .before .before .before .before .before .before .before .before .before .before .before .read-row .result)) ((c .before .before .before .before .before .before .before .before .before .before .before .before .before .read-row .last .1 .1 .1 .0)) (search needs) ((c .before .before .before .before .before .before .before .before .before .before .before .before .before .read-row .ensures)) ((c .before .before .before .before .before .before .before .before .before .enum-told .given .1)) (now (a .output)) (omega (arith, (c .before .before .before .before .before .before .before .before .before .before .before .before .before .before .before .before .before .before .if1 .left)))
+    let copy = c .before .before .before .before .before .before .copy in
+    let clear = c .before .before .clear in
+    let args = c .before .before .before .before .before .before .before .before .before .before .before .before .before .before .before .before .before .before .before .before .before .before .before .before .before .before .args in
+    let shared-slice-known = c .before .before .before .before .before .before .before .before .before .before .before .before .before .before .before .before .before .before .before .before .before .before .before .before .before .shared-slice-known in
+    let check = c .before .before .before .before .before .before .before .before .before .before .before .before .before .before .before .before .before .before .before .before .before .before .check in
+    let found2 = c .before .before .before .before .before .before .before .before .before .before .before .before .before .before .before .before .before .before .before .before .found2 in
+    let if2 = c .before .before .before .before .before .before .before .before .before .before .before .before .before .before .before .before .before .if2 in
+    let if3 = c .before .before .before .before .before .before .before .before .before .before .before .before .before .before .before .if3 in
+    let read-row = c .before .before .before .before .before .before .before .before .before .before .before .before .before .read-row in
+    let enum-told = c .before .before .before .before .before .before .before .before .before .enum-told in
+    let if1 = c .before .before .before .before .before .before .before .before .before .before .before .before .before .before .before .before .before .before .if1 in
+    ap₂ (λ (o w : List ℕ). read-left Accepted o w) (copy .ensures) (clear .ensures) ∙ read-accepted (now (args .file)) (args .variant) (now (args .work))
+    (all-bytes (now (args .file)) (λ i. (shared-slice-known .given) i .fits)) (check .result) (check .ensures) (found2 .given .0 .0)
+    (found2 .given .0 .1 .0) (found2 .given .0 .1 .1 .0) (found2 .given .0 .1 .1 .1 .0) (found2 .given .1) (omega (arith, (if2 .left)))
+    (omega (arith, (if3 .left))) (read-row .result) (read-row .last .1 .1 .1 .0) (search needs) (read-row .ensures) (enum-told .given .1)
+    (now (args .output)) (omega (arith, (if1 .left)))
 
 pub read-spec : {M : Type 1} → statement M
 read-spec =
