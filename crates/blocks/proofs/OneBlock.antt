@@ -11,8 +11,8 @@ use native.Mathlib.Omega.{arith}
 use Rattle.format.specs.Base.{pick, Out, ok, refuse}
 use Rattle.format.specs.Packed.{one, four, eight, packed-size}
 use Rattle.format.specs.Layout.{block-size}
-use Rattle.format.proofs.UnusedBits.{unused-bits}
-use Rattle.format.proofs.RefusalsByIndexArrays.{need-unused}
+use Rattle.byindex.proofs.UnusedBits.{unused-bits}
+use Rattle.byindex.proofs.RefusalsByIndexArrays.{need-unused}
 use Rattle.blocks.specs.Parts.{form-from}
 
 -- its arrays, one after another

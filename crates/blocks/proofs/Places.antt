@@ -13,7 +13,7 @@ use Rattle.format.specs.Packed.{one, packed-size}
 use Rattle.format.specs.Layout.{Fixed, plain-mode, form-of, block-count, block-size, header-end}
 use Rattle.format.specs.Header.{block-place}
 use Rattle.format.proofs.BlocksLaws.{block-count-is}
-use Rattle.format.proofs.RefusalsByIndex.{arrays-size-blocked, arrays-size-plain}
+use Rattle.byindex.proofs.RefusalsByIndex.{arrays-size-blocked, arrays-size-plain}
 use Rattle.blocks.specs.declared.Fields.{Fields}
 use Rattle.blocks.specs.declared.Blocks.{Blocks}
 use Rattle.blocks.specs.Parts.{fixed, blocks-of, BlocksSmall, form-from}

@@ -10,8 +10,8 @@ use native.Mathlib.Omega.{arith}
 use Rattle.format.specs.Base.{pick, Bytes}
 use Rattle.format.specs.Packed.{one, four, eight, packed-size}
 use Rattle.format.specs.Layout.{block-size}
-use Rattle.format.proofs.ByIndex.{number-at}
-use Rattle.format.proofs.RefusalsByIndex.{fixed-at}
+use Rattle.byindex.proofs.ByIndex.{number-at}
+use Rattle.byindex.proofs.RefusalsByIndex.{fixed-at}
 use Rattle.numbers.proofs.Sums.{one-byte}
 use Rattle.blocks.specs.declared.Fields.{Fields}
 use Rattle.blocks.specs.Parts.{fields-of, form-from}

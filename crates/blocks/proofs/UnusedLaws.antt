@@ -11,7 +11,7 @@ use native.Mathlib.Omega.{arith}
 use borrow.Author.Tests.{eq-eqb}
 use Rattle.format.specs.Base.{pick, Bytes}
 use Rattle.format.specs.Packed.{Bits, one, two, four, eight, limit, more, packed-size}
-use Rattle.format.proofs.UnusedBits.{unused-bits, unused-none, unused-bits-at}
+use Rattle.byindex.proofs.UnusedBits.{unused-bits, unused-none, unused-bits-at}
 use Rattle.blocks.proofs.Sizes.{byte-at}
 
 -- a number that fills its byte

@@ -10,7 +10,7 @@ use Rattle.format.specs.Base.{pick, Out, ok, refuse}
 use Rattle.format.specs.Packed.{four, eight}
 use Rattle.format.specs.Layout.{Fixed, Form, form-of, Arrays, block-size, in-parts}
 use Rattle.format.specs.Header.{block-place}
-use Rattle.format.proofs.PlaceLaws.{Known}
+use Rattle.byindex.proofs.PlaceLaws.{Known}
 use Rattle.blocks.specs.declared.Fields.{Fields}
 use Rattle.blocks.specs.declared.Blocks.{Blocks}
 use Rattle.blocks.specs.declared.Unused.{Unused}

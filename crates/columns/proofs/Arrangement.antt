@@ -14,7 +14,7 @@ use Rattle.format.specs.Packed.{four, eight, packed-size}
 use Rattle.format.specs.Variant.{block-of, in-block}
 use Rattle.format.specs.Layout.{Fixed, form-of, block-size}
 use Rattle.format.specs.Header.{block-place, type-place}
-use Rattle.format.proofs.ByIndex.{block-variants, lengths-place}
+use Rattle.byindex.proofs.ByIndex.{block-variants, lengths-place}
 use Rattle.blocks.specs.declared.Blocks.{Blocks}
 use Rattle.blocks.specs.Parts.{blocks-of, count-in, BlocksFit}
 use Rattle.blocks.proofs.OneBlock.{block-splits}

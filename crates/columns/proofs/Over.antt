@@ -15,9 +15,9 @@ use Rattle.format.specs.Packed.{four, eight}
 use Rattle.format.specs.Variant.{file-variant, block-variant, in-file}
 use Rattle.format.specs.Layout.{Fixed, form-of, Arrays, in-parts}
 use Rattle.format.specs.Header.{block-place}
-use Rattle.format.proofs.ByIndex.{digits-at, block-variants}
-use Rattle.format.proofs.RefusalsByIndexRecords.{bad-type}
-use Rattle.format.proofs.RefusalsByIndexTurns.{bad-in-block, turn-8}
+use Rattle.byindex.proofs.ByIndex.{digits-at, block-variants}
+use Rattle.byindex.proofs.RefusalsByIndexRecords.{bad-type}
+use Rattle.byindex.proofs.RefusalsByIndexTurns.{bad-in-block, turn-8}
 use Rattle.blocks.specs.declared.Blocks.{Blocks}
 use Rattle.blocks.specs.Parts.{count-in, Arranged}
 use Rattle.columns.proofs.Arrangement.{block-inside, place-is, count-is, bits-are}

@@ -14,10 +14,10 @@ use Rattle.format.specs.Packed.{four, eight, packed-size}
 use Rattle.format.specs.Layout.{Fixed, form-of, Arrays, sum, block-count, header-end, in-parts}
 use Rattle.format.proofs.BlocksLaws.{block-count-is}
 use Rattle.format.proofs.OffsetsLaws.{starts-count}
-use Rattle.format.proofs.ByIndex.{number-at, numbers-at, offset-at, block-variants, lengths-place}
-use Rattle.format.proofs.StartLaws.{offset-at-is}
-use Rattle.format.proofs.RefusalsByIndexRecords.{wrong-offset, starts-of}
-use Rattle.format.proofs.RefusalsByIndexTurns.{turn-9, start-of-block, next-start}
+use Rattle.byindex.proofs.ByIndex.{number-at, numbers-at, offset-at, block-variants, lengths-place}
+use Rattle.byindex.proofs.StartLaws.{offset-at-is}
+use Rattle.byindex.proofs.RefusalsByIndexRecords.{wrong-offset, starts-of}
+use Rattle.byindex.proofs.RefusalsByIndexTurns.{turn-9, start-of-block, next-start}
 use Rattle.blocks.specs.declared.Blocks.{Blocks}
 use Rattle.blocks.specs.Parts.{count-in, Arranged}
 use Rattle.columns.specs.declared.Ends.the-variants.{WrongOffset, RecordsEnd}

@@ -5,18 +5,18 @@ ghost use Prim.Native.Nat.{ℕ, _+_, _-_, _*_, _/_, _<_, _≤_};
 ghost use Rattle.format.specs.Variant.{file-variant};
 ghost use Rattle.format.specs.Header.{type-place};
 ghost use Rattle.format.specs.Layout.{Fixed, Arrays, sum, header-end};
-ghost use Rattle.format.proofs.RefusalsByIndexRecords.{bad-type, wrong-offset, starts-of};
+ghost use Rattle.byindex.proofs.RefusalsByIndexRecords.{bad-type, wrong-offset, starts-of};
 ghost use Rattle.blocks.specs.Parts.{blocks-of, BlocksSmall, count-in, BlocksFit, Arranged};
 ghost use Rattle.columns.specs.Ending.{ending};
 use blocks::Blocks;
 use format::FileVariant;
-use format::block_of;
-use format::in_block;
-use format::in_file;
 use numbers::number_at;
 use numbers::sum_lengths;
 use types::bad_in_block;
 use types::types_size;
+use variants::block_of;
+use variants::in_block;
+use variants::in_file;
 
 // 01, The header: "blocks of 65,536 variants, the last may be shorter". How many variants a block of a file of m has.
 pub fn count_in(m: usize, block: usize) -> usize

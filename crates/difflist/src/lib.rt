@@ -160,7 +160,7 @@ pub fn apply_list(
         ListStep::Listed(next) => ListStep::Listed(next),
         ListStep::Refused { number, place } => {
             if store {
-                packed::clear(row, n);
+                rowbytes::clear(row, n);
                 return ListStep::Refused { number, place };
             }
             ListStep::Refused { number, place }

@@ -14,8 +14,8 @@ use Rattle.format.specs.File.{type-of}
 use Rattle.format.proofs.Rules.{split}
 use Rattle.format.proofs.OffsetsLaws.{from-1-to-most}
 use Rattle.format.proofs.HeaderLaws.{header-exactly}
-use Rattle.format.proofs.StartLaws.{body-length-at}
-use Rattle.format.proofs.RefusalsByIndex.{fixed-at, refusal-1, fixed-at-layout}
+use Rattle.byindex.proofs.StartLaws.{body-length-at}
+use Rattle.byindex.proofs.RefusalsByIndex.{fixed-at, refusal-1, fixed-at-layout}
 use Rattle.blocks.specs.declared.Fields.{Fields}
 use Rattle.blocks.specs.Parts.{fixed, fields-of}
 use Rattle.extents.specs.Extent.{kind-at, size-at}

@@ -8,9 +8,9 @@ use lib.ListN.{length, getD}
 use Rattle.format.specs.declared.FileVariant.{FileVariant}
 use Rattle.format.specs.Base.{pick}
 use Rattle.format.specs.Layout.{Fixed, plain-mode, Arrays, Layout, fixed-of, body-lengths, arrays-of, in-parts, plain-size, LayoutObeys}
-use Rattle.format.proofs.ByIndex.{type-at, length-at}
-use Rattle.format.proofs.PlaceLaws.{known, type-at-is, length-at-is}
-use Rattle.format.proofs.StartLaws.{plain-type, plain-length}
+use Rattle.byindex.proofs.ByIndex.{type-at, length-at}
+use Rattle.byindex.proofs.PlaceLaws.{known, type-at-is, length-at-is}
+use Rattle.byindex.proofs.StartLaws.{plain-type, plain-length}
 use Rattle.extents.specs.Extent.{kind-at, size-at}
 
 module _ (K : ℕ) (l : Layout) (p : zero < K) (h : LayoutObeys K l) (records : List ℕ) (v : FileVariant) (lt : v .0 < length (l .bodies)) where

@@ -15,7 +15,7 @@ use Rattle.format.specs.Packed.{four, eight, more, packed-size}
 use Rattle.format.specs.Variant.{block-of, in-block}
 use Rattle.format.specs.Layout.{Fixed, plain-size}
 use Rattle.format.specs.Header.{type-place}
-use Rattle.format.proofs.ByIndex.{number-at, digit-at, lengths-place, type-at, length-at}
+use Rattle.byindex.proofs.ByIndex.{number-at, digit-at, lengths-place, type-at, length-at}
 use Rattle.numbers.proofs.Sums.{one-byte, two-bytes, three-bytes, four-bytes}
 use Rattle.blocks.specs.declared.Blocks.{Blocks}
 use Rattle.blocks.specs.declared.Fields.{Fields}

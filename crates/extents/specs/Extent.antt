@@ -5,7 +5,7 @@ use mathlib.Core.List.{List}
 use Rattle.format.specs.declared.FileVariant.{FileVariant}
 use Rattle.format.specs.Base.{pick}
 use Rattle.format.specs.Layout.{Fixed, plain-mode, plain-size}
-use Rattle.format.proofs.ByIndex.{type-at, length-at}
+use Rattle.byindex.proofs.ByIndex.{type-at, length-at}
 
 -- 01, The header: "Mode 0x02: ... Every record has type 0 and ceil(N/4) bytes."
 unfoldable pub kind-at : ℕ → Fixed → List ℕ → FileVariant → ℕ

@@ -5,7 +5,7 @@ ghost use Prim.Native.Nat.{_≤_, _<_};
 ghost use lib.ListN.{drop, getD};
 ghost use Rattle.format.specs.Variant.{block-of};
 ghost use Rattle.format.specs.Layout.{plain-mode};
-ghost use Rattle.format.proofs.ByIndex.{number-at, lengths-place, type-at, length-at};
+ghost use Rattle.byindex.proofs.ByIndex.{number-at, lengths-place, type-at, length-at};
 ghost use Rattle.blocks.specs.Parts.{fixed};
 ghost use Rattle.extents.specs.Extent.{kind-at, size-at};
 use blocks::Fields;
@@ -13,11 +13,11 @@ use blocks::blocks_of;
 use columns::count_in;
 use columns::type_place;
 use format::FileVariant;
-use format::block_of;
-use format::in_block;
 use numbers::number_4;
 use types::type_at;
 use types::types_size;
+use variants::block_of;
+use variants::in_block;
 
 // The byte at p.
 pub fn byte_at(s: &[u8], p: usize) -> u8

@@ -87,7 +87,7 @@ fn flip_pair(s: &mut [u8], n: usize)
         return;
     }
     let code = s[0];
-    let PairFound::Known(pair) = format::pair_of(code) else {
+    let PairFound::Known(pair) = pairs::pair_of(code) else {
         return;
     };
     s[0] = pair.image;

@@ -12,7 +12,7 @@ use Rattle.format.specs.File.{layout-of-file, file-bytes, flip-bytes}
 use Rattle.format.proofs.HeaderLaws.{header-exactly}
 use Rattle.format.proofs.FileLaws.{file-exactly}
 use Rattle.format.specs.Layout.{Fixed}
-use Rattle.format.proofs.RefusalsByIndex.{fixed-at}
+use Rattle.byindex.proofs.RefusalsByIndex.{fixed-at}
 use Rattle.blocks.specs.declared.Fields.{Fields}
 use Rattle.blocks.specs.Parts.{fixed, fields-of}
 use Rattle.blocks.proofs.Places.{is-plain, is-blocked}

@@ -14,7 +14,7 @@ use Rattle.format.specs.Layout.{Fixed, fixed-bytes, header-end, most-samples, p
 use Rattle.format.specs.File.{File, layout-of-file, file-bytes, Obeys, flip-bodies, flip-file, flip-bytes}
 use Rattle.format.proofs.OffsetsLaws.{offsets-fit, from-1-to-most}
 use Rattle.format.proofs.ArraysLaws.{fixed-length, arrays-length}
-use Rattle.format.proofs.PlaceLaws.{known}
+use Rattle.byindex.proofs.PlaceLaws.{known}
 use Rattle.format.proofs.FileLaws.{file-exactly}
 use Rattle.format.proofs.FlipLaws.{SameLayout, flip-layout, flip-of-file}
 use Rattle.extents.specs.Extent.{kind-at, size-at}

@@ -20,7 +20,7 @@ use Rattle.format.proofs.NumbersLaws.{numbers-length}
 use Rattle.format.proofs.PackedLaws.{packed-length, byte-there}
 use Rattle.format.proofs.BlocksLaws.{blocks-hold-all, flags-taken, flags-dropped, block-length}
 use Rattle.format.proofs.ArraysLaws.{fixed-length, AllFit}
-use Rattle.format.proofs.PlaceLaws.{Known, in-parts-blocked, TwoNumbers, two-numbers}
+use Rattle.byindex.proofs.PlaceLaws.{Known, in-parts-blocked, TwoNumbers, two-numbers}
 use Rattle.flipfile.specs.Passes.{digit-put, put-at, type-put}
 
 -- ---- in a packed array

@@ -14,7 +14,7 @@ use Rattle.format.specs.declared.FileVariant.{FileVariant}
 use Rattle.format.specs.Variant.{file-variant, next-variant}
 use Rattle.format.specs.Layout.{Fixed, header-end}
 use Rattle.format.specs.File.{next-anchor}
-use Rattle.format.proofs.ByIndex.{type-at}
+use Rattle.byindex.proofs.ByIndex.{type-at}
 use Rattle.flipbody.specs.Edits.{flipped-in}
 use Rattle.extents.specs.Extent.{kind-at, size-at}
 use Rattle.flipfile.specs.Passes.{bodies-flipped, all-bodies, type-flipped, types-flipped, all-types}

@@ -21,8 +21,8 @@ use Rattle.format.specs.File.{next-anchor, BodiesFit, flip-bodies}
 use Rattle.format.proofs.Rules.{never-both}
 use Rattle.format.proofs.FlipTrackLaws.{fits-flip}
 use Rattle.format.proofs.FlipTypeLaws.{track-kind-small}
-use Rattle.format.proofs.ByIndex.{type-at}
-use Rattle.format.proofs.PlaceLaws.{Known, type-at-is}
+use Rattle.byindex.proofs.ByIndex.{type-at}
+use Rattle.byindex.proofs.PlaceLaws.{Known, type-at-is}
 use Rattle.flipfile.specs.Passes.{type-put, flipped-type, touched, type-flipped, types-flipped}
 use Rattle.flipfile.proofs.PutLaws.{with-types, type-put-is}
 

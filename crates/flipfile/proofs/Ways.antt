@@ -18,7 +18,7 @@ use Rattle.format.specs.Layout.{form-of}
 use Rattle.format.specs.Header.{type-place}
 use Rattle.format.proofs.Rules.{split}
 use Rattle.format.proofs.PackedLaws.{limit-positive}
-use Rattle.format.proofs.ByIndex.{type-at}
+use Rattle.byindex.proofs.ByIndex.{type-at}
 use Rattle.blocks.specs.declared.Fields.{Fields}
 use Rattle.blocks.specs.declared.Blocks.{Blocks}
 use Rattle.blocks.specs.Parts.{fixed, blocks-of}

@@ -15,7 +15,7 @@ use Rattle.format.specs.Variant.{file-variant, next-variant, in-block}
 use Rattle.format.specs.Layout.{Fixed, plain-mode, form-of, header-end}
 use Rattle.format.specs.Header.{type-place}
 use Rattle.format.specs.File.{next-anchor}
-use Rattle.format.proofs.ByIndex.{type-at}
+use Rattle.byindex.proofs.ByIndex.{type-at}
 use Rattle.flipbody.specs.Edits.{flipped-in}
 use Rattle.extents.specs.Extent.{kind-at, size-at}
 

@@ -26,8 +26,8 @@ use extents::type_of;
 use flipbody::flip_body;
 use flipbody::next_lent;
 use format::FileVariant;
-use format::in_block;
 use types::type_leans;
+use variants::in_block;
 
 // 01, Flipping: "The set has bit v for variant v."
 fn is_member(set: &[u8], v: FileVariant) -> bool

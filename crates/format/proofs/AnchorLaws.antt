@@ -9,13 +9,13 @@ use lib.ListN.{length, getD, drop}
 use lib.Seq.{getD-drop}
 use lib.Dec.{eqb, ltb}
 use native.Mathlib.Omega.{arith}
-use borrow.Author.Tests.{eq-eqb}
+use borrow.Author.Tests.{eq-eqb, ltb-true}
 use Rattle.format.specs.declared.FileVariant.{FileVariant}
 use Rattle.format.specs.declared.BlockVariant.{BlockVariant}
 use Rattle.format.specs.Track.{leans}
 use Rattle.format.specs.Variant.{file-variant, block-of, in-block, nearest, anchor}
 use Rattle.format.specs.Layout.{type-allowed, TypesAllowed}
-use Rattle.format.proofs.Rules.{never-both, by-test, split}
+use Rattle.format.proofs.Rules.{never-both, both, by-test, split}
 
 -- ---- what an anchor is
 
@@ -136,3 +136,10 @@ module _ (K : ℕ) (types : List ℕ) (p : zero < K) (h : TypesAllowed K (file-v
       let there : IsAnchor types b (suc v) v
       = past-standing types b v (omega (arith, div-add-mod' (suc v) K, leaning-is-later (file-variant (suc v)) l t)) s in
       ap file-variant (anchor-unique types b (suc v) _ _ here there)
+
+-- a type that the header lets through
+pub allowed : (i : BlockVariant) (type : ℕ) → type-allowed i type ≡ true → (type < 8) × (type ≡ 5 → ⊥)
+allowed i type h =
+    let p = both (ltb type 8) (not (eqb type 5) && not (eqb (i .0) 0 && leans type)) h in
+    let q = both (not (eqb type 5)) (not (eqb (i .0) 0 && leans type)) (p .1) in
+    (ltb-true type 8 (p .0), λ e. never-both (q .0) (ap not (eq-eqb type 5 e)))

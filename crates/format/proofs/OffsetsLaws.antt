@@ -3,7 +3,7 @@
 use mathlib.Core.Path.{_≡_, refl, ap, _∙_}
 use Prim.Native.Nat.{ℕ, zero, suc, _+_, _-_, _*_, _/_, _^_, _≤_, _<_, zero-le}
 use native.Mathlib.Nat.{pow-le-pow-right, mul-le-mul-left, div-le-self, mul-le-mul-right, div-le-of-le-mul, le-refl, suc-mul, mul-suc}
-use mathlib.Core.Bool.{Bool, true, false, _&&_, _||_}
+use mathlib.Core.Bool.{Bool, true, false, _||_}
 use mathlib.Core.List.{List, [], _∷_, _++_, map}
 use lib.ListN.{length, take, drop, length-replicate}
 use lib.Dec.{eqb, leb, lit<, lit≤}
@@ -16,7 +16,7 @@ use Rattle.format.specs.Packed.{Bits, one, two, four, eight, more, packe
 use Rattle.format.specs.Variant.{next-variant, in-block}
 use Rattle.format.specs.Layout.{Fixed, most-variants, from-1-to, plain-mode, mode-covered, Form, form-of, flag-count, Columns, sum, block-count, cut, block-sizes, block-size, blocked-size, arrays-size, header-end, Layout, fixed-of, body-lengths, columns-of, block-starts, arrays-of, joined, plain-size, ColumnsPlain, ColumnsObey, type-allowed, TypesAllowed, LayoutObeys}
 use Rattle.format.specs.Header.{need-types, need-offsets, split-bodies}
-use Rattle.format.proofs.Rules.{Holds, by-test, by-need, by-bind, by-map}
+use Rattle.format.proofs.Rules.{Holds, by-test, by-need, by-bind, by-map, both}
 use Rattle.format.proofs.NumbersLaws.{bytes-read-back, AreBytes, bytes-as-written}
 use Rattle.format.proofs.BlocksLaws.{cut-length, block-count-is, sizes-sum}
 use Rattle.format.proofs.ArraysLaws.{OffsetsFit, AllFit}
@@ -136,22 +136,13 @@ starts-below m start (n ∷ ns) lengths h =
 
 -- ---- an offset fits its eight bytes
 
--- both sides of a conjunction hold
-and-left : (a b : Bool) → a && b ≡ true → a ≡ true
-and-left true b e = refl
-and-left false b e = absurd (let n : _≡_ {A = ℕ} 0 1 = cc in omega arith)
-
-and-right : (a b : Bool) → a && b ≡ true → b ≡ true
-and-right true b e = e
-and-right false b e = absurd (let n : _≡_ {A = ℕ} 0 1 = cc in omega arith)
-
 -- a number in its range is at most the most
 pub from-1-to-most : (most n : ℕ) → from-1-to most n ≡ true → n ≤ most
-from-1-to-most most n e = leb-true n most (and-right (leb 1 n) (leb n most) e)
+from-1-to-most most n e = leb-true n most (both (leb 1 n) (leb n most) e .1)
 
 -- and not zero
 pub from-1-to-positive : (most n : ℕ) → from-1-to most n ≡ true → zero < n
-from-1-to-positive most n e = leb-true 1 n (and-left (leb 1 n) (leb n most) e)
+from-1-to-positive most n e = leb-true 1 n (both (leb 1 n) (leb n most) e .0)
 
 -- a covered mode is a byte
 pub mode-byte : (mode : ℕ) → mode-covered mode ≡ true → mode < 256

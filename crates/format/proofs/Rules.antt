@@ -2,7 +2,7 @@
 -- Assumes nothing.
 use mathlib.Core.Path.{_≡_, refl}
 use Prim.Native.Nat.{ℕ, zero, suc, _≤_, _<_}
-use mathlib.Core.Bool.{Bool, true, false}
+use mathlib.Core.Bool.{Bool, true, false, _&&_}
 use mathlib.Core.List.{List, [], _∷_, _++_}
 use lib.ListN.{take, drop}
 use native.Mathlib.Omega.{arith}
@@ -45,6 +45,11 @@ weaken P Q (refuse number place) k h = tt
 -- a test has one outcome
 pub never-both {ℓ} : {X : Type ℓ} {t : Bool} → t ≡ true → t ≡ false → X
 never-both p q = let z : _≡_ {A = ℕ} 0 1 = cc in absurd (omega arith)
+
+-- two tests that both hold
+pub both : (a b : Bool) → a && b ≡ true → (a ≡ true) × (b ≡ true)
+both true b h = (refl, h)
+both false b h = never-both h refl
 
 -- one order or the other
 pub split {ℓ} : {X : Type ℓ} (a b : ℕ) → (a ≤ b → X) → (b < a → X) → X

@@ -15,11 +15,11 @@ use Rattle.format.specs.Layout.{Fixed, plain-mode, Form, form-of, flag-count, b
 use Rattle.format.specs.Header.{block-place}
 use Rattle.format.proofs.Rules.{split}
 use Rattle.format.proofs.BlocksLaws.{block-count-is}
-use Rattle.format.proofs.ByIndex.{block-variants}
-use Rattle.format.proofs.UnusedBits.{unused-bits}
-use Rattle.format.proofs.RefusalsByIndex.{arrays-size-blocked}
-use Rattle.format.proofs.RefusalsByIndexArrays.{need-unused, unused-in, unused-arrays}
-use Rattle.format.proofs.RefusalsByIndexTurns.{first-7, turn-7}
+use Rattle.byindex.proofs.ByIndex.{block-variants}
+use Rattle.byindex.proofs.UnusedBits.{unused-bits}
+use Rattle.byindex.proofs.RefusalsByIndex.{arrays-size-blocked}
+use Rattle.byindex.proofs.RefusalsByIndexArrays.{need-unused, unused-in, unused-arrays}
+use Rattle.byindex.proofs.RefusalsByIndexTurns.{first-7, turn-7}
 use Rattle.blocks.specs.declared.Blocks.{Blocks}
 use Rattle.blocks.specs.Parts.{blocks-of, BlocksSmall, count-in, BlocksFit}
 use Rattle.blocks.proofs.UnusedLaws.{none-unused}

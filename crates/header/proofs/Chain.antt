@@ -16,10 +16,10 @@ use Rattle.format.specs.Layout.{Fixed, plain-mode, Arrays, sum, block-count, bl
 use Rattle.format.specs.Header.{type-place}
 use Rattle.format.specs.Reply.{Summary, summary, header-left}
 use Rattle.format.proofs.BlocksLaws.{block-count-is}
-use Rattle.format.proofs.ByIndex.{block-variants}
-use Rattle.format.proofs.RefusalsByIndex.{fixed-at, after-fixed}
-use Rattle.format.proofs.RefusalsByIndexArrays.{need-unused, unused-arrays, Passed, passed-known}
-use Rattle.format.proofs.RefusalsByIndexRecords.{bad-type, wrong-offset, starts-of, after-types, after-offsets, refusal-8, refusal-9-offset}
+use Rattle.byindex.proofs.ByIndex.{block-variants}
+use Rattle.byindex.proofs.RefusalsByIndex.{fixed-at, after-fixed}
+use Rattle.byindex.proofs.RefusalsByIndexArrays.{need-unused, unused-arrays, Passed, passed-known}
+use Rattle.byindex.proofs.RefusalsByIndexRecords.{bad-type, wrong-offset, starts-of, after-types, after-offsets, refusal-8, refusal-9-offset}
 use Rattle.blocks.specs.declared.Fields.{Fields}
 use Rattle.blocks.specs.declared.Blocks.{Blocks}
 use Rattle.blocks.specs.declared.Unused.{Unused}

@@ -13,8 +13,8 @@ use Rattle.format.specs.Base.{Bytes}
 use Rattle.format.specs.Layout.{Fixed, most-samples, most-variants, from-1-to, mode-covered, form-allowed, header-end}
 use Rattle.format.specs.Header.{need-fixed, read-layout}
 use Rattle.format.specs.Reply.{Summary, summary, header-left, header-call}
-use Rattle.format.proofs.ByIndex.{number-at}
-use Rattle.format.proofs.RefusalsByIndex.{fixed-at, refusal-1, after-fixed, refusals-2-to-5, refusal-6, form-byte-at, passed-2-to-5}
+use Rattle.byindex.proofs.ByIndex.{number-at}
+use Rattle.byindex.proofs.RefusalsByIndex.{fixed-at, refusal-1, after-fixed, refusals-2-to-5, refusal-6, form-byte-at, passed-2-to-5}
 use Rattle.blocks.specs.declared.Fields.{Fields}
 use Rattle.blocks.specs.Parts.{fixed, fields-of}
 use Rattle.header.specs.Ready.{Ready, Held}

@@ -12,9 +12,9 @@ use Rattle.format.specs.Base.{pick, Out, ok, refuse}
 use Rattle.format.specs.Layout.{Fixed, most-samples, most-variants, from-1-to, mode-covered, Arrays, sum, header-end, Layout}
 use Rattle.format.specs.Reply.{summary, header-left}
 use Rattle.format.proofs.OffsetsLaws.{from-1-to-most, from-1-to-positive}
-use Rattle.format.proofs.RefusalsByIndex.{fixed-at, after-fixed}
-use Rattle.format.proofs.RefusalsByIndexArrays.{unused-arrays, refusal-7, Passed, passed-7}
-use Rattle.format.proofs.RefusalsByIndexRecords.{after-offsets, layout-at, refusal-9-end, accepted, accepted-variants}
+use Rattle.byindex.proofs.RefusalsByIndex.{fixed-at, after-fixed}
+use Rattle.byindex.proofs.RefusalsByIndexArrays.{unused-arrays, refusal-7, Passed, passed-7}
+use Rattle.byindex.proofs.RefusalsByIndexRecords.{after-offsets, layout-at, refusal-9-end, accepted, accepted-variants}
 use Rattle.blocks.specs.declared.Fields.{Fields}
 use Rattle.blocks.specs.Parts.{fixed}
 use Rattle.header.specs.Ready.{Ready, Held}

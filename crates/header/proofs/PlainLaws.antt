@@ -14,10 +14,10 @@ use Rattle.format.specs.Base.{pick, ok, refuse, need}
 use Rattle.format.specs.Packed.{one, packed-size}
 use Rattle.format.specs.Layout.{Fixed, plain-mode, form-of, flag-count, Arrays, sum, plain-size}
 use Rattle.format.specs.Reply.{summary, header-left}
-use Rattle.format.proofs.UnusedBits.{unused-bits}
-use Rattle.format.proofs.RefusalsByIndex.{after-fixed, arrays-size-plain}
-use Rattle.format.proofs.RefusalsByIndexArrays.{unused-arrays, Passed}
-use Rattle.format.proofs.RefusalsByIndexRecords.{after-offsets, plain-goes-on, plain-lengths-sum}
+use Rattle.byindex.proofs.UnusedBits.{unused-bits}
+use Rattle.byindex.proofs.RefusalsByIndex.{after-fixed, arrays-size-plain}
+use Rattle.byindex.proofs.RefusalsByIndexArrays.{unused-arrays, Passed}
+use Rattle.byindex.proofs.RefusalsByIndexRecords.{after-offsets, plain-goes-on, plain-lengths-sum}
 use Rattle.blocks.specs.declared.Fields.{Fields}
 use Rattle.blocks.specs.Parts.{fixed}
 use Rattle.header.specs.Ready.{Held}

@@ -4,7 +4,7 @@ use mathlib.Core.Path.{_≡_}
 use Prim.Native.Nat.{ℕ}
 use mathlib.Core.List.{List, []}
 use Rattle.format.specs.Base.{Out, ok, refuse}
-use Rattle.format.proofs.RefusalsByIndexArrays.{unused-arrays}
+use Rattle.byindex.proofs.RefusalsByIndexArrays.{unused-arrays}
 use Rattle.blocks.specs.declared.Fields.{Fields}
 use Rattle.blocks.specs.Parts.{fixed}
 use Rattle.header.specs.declared.Found.{Found}

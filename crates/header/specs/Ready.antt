@@ -7,7 +7,7 @@ use mathlib.Core.List.{List}
 use lib.ListN.{length}
 use Rattle.format.specs.Base.{Bytes}
 use Rattle.format.specs.Layout.{plain-mode, header-end, FixedObeys}
-use Rattle.format.proofs.RefusalsByIndex.{fixed-at}
+use Rattle.byindex.proofs.RefusalsByIndex.{fixed-at}
 use Rattle.blocks.specs.declared.Fields.{Fields}
 use Rattle.blocks.specs.declared.Blocks.{Blocks}
 use Rattle.blocks.specs.Parts.{fixed, blocks-of, BlocksSmall}

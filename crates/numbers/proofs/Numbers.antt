@@ -9,7 +9,7 @@ use lib.Seq.{drop-drop, getD-drop}
 use lib.Dec.{lit<}
 use lib.Arith.{digits-lt}
 use native.Mathlib.Omega.{arith}
-use Rattle.format.proofs.ByIndex.{number-at}
+use Rattle.byindex.proofs.ByIndex.{number-at}
 
 -- the bytes from i on have been read
 pub record Reading (bs : List ℕ) (at width i number : ℕ) : Type 0 where

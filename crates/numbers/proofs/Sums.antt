@@ -8,7 +8,7 @@ use lib.ListN.{length, drop, getD}
 use lib.Seq.{drop-drop, getD-drop}
 use native.Mathlib.Omega.{arith}
 use Rattle.format.specs.Layout.{sum}
-use Rattle.format.proofs.ByIndex.{number-at, numbers-at}
+use Rattle.byindex.proofs.ByIndex.{number-at, numbers-at}
 
 -- the bytes of a number
 pub one-byte : (at : ℕ) (bs : List ℕ) → number-at 1 (drop at bs) ≡ getD bs at 0

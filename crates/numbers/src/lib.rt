@@ -3,7 +3,7 @@ ghost use mathlib.Core.Path.{_≡_};
 ghost use Prim.Native.Nat.{_+_, _*_, _^_, _<_, _≤_};
 ghost use lib.ListN.{length, drop};
 ghost use Rattle.format.specs.Layout.{sum};
-ghost use Rattle.format.proofs.ByIndex.{number-at, numbers-at};
+ghost use Rattle.byindex.proofs.ByIndex.{number-at, numbers-at};
 
 // 01, What the software covers: "All numbers are little-endian." The number of so many bytes at a place.
 pub fn number_at(file: &[u8], at: usize, width: usize) -> u64

@@ -1,14 +1,12 @@
 -- A turn of each loop that stores numbers, and what small functions answer.
 -- Assumes nothing.
-use mathlib.Core.Path.{_≡_, refl, ap, _∙_}
+use mathlib.Core.Path.{_≡_, refl, _∙_}
 use Prim.Native.Nat.{ℕ, zero, suc, _+_, _-_, _*_, _/_, _%_, _^_, _≤_, _<_}
 use native.Mathlib.Omega.{arith}
-use native.Mathlib.Nat.{not-suc-le-zero, le-of-suc-le-suc, pow-suc, mul-zero}
-use native.Mathlib.Numerals.{add-one}
-use mathlib.Core.List.{List, [], _∷_, _++_}
-use lib.ListN.{getD, length, set, take, drop}
+use native.Mathlib.Nat.{pow-suc, mul-zero}
+use mathlib.Core.List.{List, _++_}
+use lib.ListN.{getD, length, set, drop}
 use borrow.Author.Tests.{eq-eqb, ne-eqb}
-use Rattle.format.specs.Category.{exchange}
 use Rattle.format.specs.Packed.{one, two}
 use Rattle.packed.specs.Arrays.{number-in, tabulate, store, Spread}
 use Rattle.packed.specs.Unpacked.{of-pair}
@@ -113,22 +111,6 @@ both-stored f a n row mid new h l e g =
     g ∙ rw e (rw (z, s) at (store-both f a (n - a) 0 row)) ∙ stored-is f n row l
 
 -- ---- a copy, an exchange, a choice
-
-copy-suc : (i : ℕ) (from to : List ℕ) → i < length from → i < length to → set (take i from ++ drop i to) i (getD from i 0) ≡ take (suc i) from ++ drop (suc i) to
-copy-suc i [] to h g = absurd (not-suc-le-zero h)
-copy-suc i (x ∷ from) [] h g = absurd (not-suc-le-zero g)
-copy-suc zero (x ∷ from) (y ∷ to) h g = refl
-copy-suc (suc i) (x ∷ from) (y ∷ to) h g = ap (_∷_ x) (copy-suc i from to (le-of-suc-le-suc h) (le-of-suc-le-suc g))
-
-pub copy-more : (i : ℕ) (from old to : List ℕ) → to ≡ take i from ++ drop i old → i < length from → i < length old
-    → set to i (getD from i 0) ≡ take (i + 1) from ++ drop (i + 1) old
-copy-more i from old to e h g = rw (e, add-one i) (copy-suc i from old h g)
-
-pub exchange-kept : (n : ℕ) → (n ≡ 0 → ⊥) → (n ≡ 2 → ⊥) → n ≡ exchange n
-exchange-kept zero p q = absurd (p refl)
-exchange-kept (suc zero) p q = refl
-exchange-kept (suc (suc zero)) p q = absurd (q refl)
-exchange-kept (suc (suc (suc n))) p q = refl
 
 pub pair-lower : (lower higher bit : ℕ) → bit ≡ 0 → lower ≡ of-pair lower higher bit
 pair-lower lower higher bit e = simp (eq-eqb bit 0 e)

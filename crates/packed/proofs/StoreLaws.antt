@@ -1,12 +1,11 @@
 -- Numbers stored one after another: in a run, four at a time, and a row mapped in place.
 -- Assumes nothing.
 use mathlib.Core.Path.{_≡_, refl, ap, _∙_}
-use Prim.Native.Nat.{ℕ, zero, suc, _+_, _≤_, _<_}
+use Prim.Native.Nat.{ℕ, zero, suc, _+_, _≤_}
 use native.Mathlib.Omega.{arith}
-use native.Mathlib.Nat.{add-zero, not-suc-le-zero, le-of-suc-le-suc}
-use native.Mathlib.Numerals.{add-one}
-use mathlib.Core.List.{List, [], _∷_, _++_, map, append-assoc}
-use lib.ListN.{length, getD, set, take, drop, length-append, length-set}
+use native.Mathlib.Nat.{add-zero}
+use mathlib.Core.List.{List, [], _∷_, _++_, append-assoc}
+use lib.ListN.{length, set, drop, length-append, length-set}
 use lib.Seq.{set-at}
 use Rattle.packed.specs.Arrays.{tabulate, store}
 
@@ -52,14 +51,3 @@ store-four f m k a b c d row p q r s =
     let e₃ : k + 2 + 1 ≡ k + 3 = omega arith in
     let e₄ : k + 3 + 1 ≡ k + 4 = omega arith in
     simp (e₂, e₃, e₄, p, q, r, s)
-
--- a turn of a loop that maps a row in place
-map-suc : (f : ℕ → ℕ) (i : ℕ) (row : List ℕ) → i < length row
-    → set (map f (take i row) ++ drop i row) i (f (getD (map f (take i row) ++ drop i row) i 0)) ≡ map f (take (suc i) row) ++ drop (suc i) row
-map-suc f i [] h = absurd (not-suc-le-zero h)
-map-suc f zero (x ∷ row) h = refl
-map-suc f (suc i) (x ∷ row) h = ap (_∷_ (f x)) (map-suc f i row (le-of-suc-le-suc h))
-
-pub map-more : (f : ℕ → ℕ) (i : ℕ) (old row : List ℕ) → row ≡ map f (take i old) ++ drop i old → i < length old → (v : ℕ) → v ≡ f (getD row i 0)
-    → set row i v ≡ map f (take (i + 1) old) ++ drop (i + 1) old
-map-more f i old row e h v q = rw (q, e, add-one i) (map-suc f i old h)

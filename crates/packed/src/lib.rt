@@ -1,11 +1,9 @@
-// Packed arrays and rows of categories: an array checked and unpacked, a row filled, copied, exchanged. Every slice `s` is the file cut where
+// Packed arrays, checked and unpacked. Every slice `s` is the file cut where
 // the record ends, so that its length is the record's end.
 ghost use mathlib.Core.Path.{_≡_};
 ghost use Prim.Native.Nat.{suc, _+_, _-_, _*_, _/_, _%_, _≤_, _<_};
-ghost use mathlib.Core.Bool.{true};
 ghost use mathlib.Core.List.{_++_, map};
-ghost use lib.ListN.{length, set, take, drop, replicate};
-ghost use Rattle.format.specs.Category.{exchange, exchange-all};
+ghost use lib.ListN.{length, set, take, drop};
 ghost use Rattle.format.specs.Packed.{one, two, more, packed-size};
 ghost use Rattle.packed.specs.Arrays.{bits-of, number-in, unused, tabulate, store, Spread};
 ghost use Rattle.packed.specs.Unpacked.{array-at, out, unpacked-two, unpacked-one, of-pair};
@@ -233,56 +231,5 @@ pub fn unpack_pair(
             choose(row, n, lower, higher);
             PackedStep::Next(end)
         }
-    }
-}
-
-// The first n samples in one category.
-pub fn fill(row: &mut [u8], n: usize, category: u8)
-    requires { ⌜ n ≤ length (now row) ⌝ }
-    ensures { λ _. ⌜ now (row .exit) ≡ replicate n category ++ drop n (now (row .entry)) ⌝ }
-{
-    for i in 0..n {
-        row[i] = category;
-    }
-}
-
-// 01, Replies: "its first N bytes are zero and the rest unchanged".
-pub fn clear(row: &mut [u8], n: usize)
-    requires { ⌜ n ≤ length (now row) ⌝ }
-    ensures { λ _. ⌜ now (row .exit) ≡ replicate n 0 ++ drop n (now (row .entry)) ⌝ }
-{
-    fill(row, n, 0);
-}
-
-// The first n bytes of one row into another.
-pub fn copy(from: &[u8], n: usize, to: &mut [u8])
-    requires { ⌜ (n ≤ length (now from)) × (n ≤ length (now to)) ⌝ }
-    ensures { λ _. ⌜ now (to .exit) ≡ take n (now (from .entry)) ++ drop n (now (to .entry)) ⌝ }
-{
-    for i in 0..n {
-        to[i] = from[i];
-    }
-}
-
-// A category with 0 and 2 exchanged.
-fn exchanged(category: u8) -> u8
-    ensures { λ r. ⌜ r ≡ exchange category ⌝ }
-{
-    if category == 0 {
-        return 2;
-    }
-    if category == 2 {
-        return 0;
-    }
-    category
-}
-
-// 01, Categories and kinds: "0 and 2 exchanged for all samples".
-pub fn exchange_row(row: &mut [u8], n: usize)
-    requires { ⌜ n ≤ length (now row) ⌝ }
-    ensures { λ _. ⌜ now (row .exit) ≡ exchange-all true (take n (now (row .entry))) ++ drop n (now (row .entry)) ⌝ }
-{
-    for i in 0..n {
-        row[i] = exchanged(row[i]);
     }
 }

@@ -13,8 +13,8 @@ use Rattle.format.specs.declared.FileVariant.{FileVariant}
 use Rattle.format.specs.Base.{Bytes, ok}
 use Rattle.format.specs.Layout.{Fixed, plain-mode, header-end, Layout, fixed-of, record-start}
 use Rattle.format.specs.Header.{read-layout}
-use Rattle.format.proofs.StartLaws.{plain-start, record-inside, record-end}
-use Rattle.format.proofs.RefusalsByIndex.{fixed-at}
+use Rattle.byindex.proofs.StartLaws.{plain-start, record-inside, record-end}
+use Rattle.byindex.proofs.RefusalsByIndex.{fixed-at}
 use Rattle.blocks.specs.declared.Fields.{Fields}
 use Rattle.blocks.specs.Parts.{fixed, fields-of}
 use Rattle.extents.specs.Extent.{kind-at, size-at}

@@ -15,7 +15,7 @@ use Rattle.format.specs.Reply.{Summary, summary, header-left, header-call}
 use Rattle.format.proofs.Rules.{Holds}
 use Rattle.format.proofs.Unique.{apart}
 use Rattle.format.proofs.HeaderLaws.{IsLayout, layout-as-written}
-use Rattle.format.proofs.StartLaws.{body-length-at, body-at-is, record-end}
+use Rattle.byindex.proofs.StartLaws.{body-length-at, body-at-is, record-end}
 use Rattle.places.specs.declared.Place.{Place}
 use Rattle.places.specs.Located.{HasVariant, HasLayout, place-in}
 use Rattle.extents.proofs.AcceptedLaws.{obeys, written}

@@ -16,11 +16,11 @@ use Rattle.format.specs.Track.{leans}
 use Rattle.format.specs.Variant.{block-of, in-block, in-file, nearest, anchor}
 use Rattle.format.specs.Layout.{plain-mode, sum, Layout, fixed-of, record-start}
 use Rattle.format.specs.Header.{read-layout}
-use Rattle.format.proofs.ByIndex.{number-at, numbers-at, digits-at, lengths-place, offset-at, start-at}
+use Rattle.byindex.proofs.ByIndex.{number-at, numbers-at, digits-at, lengths-place, offset-at, start-at}
 use Rattle.format.proofs.Rules.{by-test, never-both}
-use Rattle.format.proofs.StartLaws.{plain-type, start-at-is}
-use Rattle.format.proofs.RefusalsByIndex.{fixed-at}
-use Rattle.format.proofs.AnchorByIndex.{anchor-at, layout-anchor-at}
+use Rattle.byindex.proofs.StartLaws.{plain-type, start-at-is}
+use Rattle.byindex.proofs.RefusalsByIndex.{fixed-at}
+use Rattle.byindex.proofs.AnchorByIndex.{anchor-at, layout-anchor-at}
 use Rattle.blocks.specs.declared.Fields.{Fields}
 use Rattle.blocks.specs.declared.Blocks.{Blocks}
 use Rattle.blocks.specs.Parts.{fixed, fields-of, blocks-of, BlocksSmall, count-in, BlocksFit}

@@ -1,3 +1,4 @@
 pub mod AcceptedLaws
 pub mod InBlock
 pub mod FromReply
+pub mod ViewLaws

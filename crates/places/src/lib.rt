@@ -1,4 +1,4 @@
-// Where the record of a variant stands in a file that the header check accepts, and which variant it leans on.
+// Where the record of a variant stands in a file that the header check accepts, and which variant it leans on; and the view of that record.
 ghost use mathlib.Core.Path.{_≡_};
 ghost use mathlib.Core.Bool.{false};
 ghost use mathlib.Core.List.{[]};
@@ -7,7 +7,8 @@ ghost use Rattle.format.specs.Base.{ok};
 ghost use Rattle.format.specs.Variant.{anchor};
 ghost use Rattle.format.specs.Layout.{plain-mode, Layout, record-start};
 ghost use Rattle.format.specs.Header.{read-layout};
-ghost use Rattle.format.proofs.RefusalsByIndex.{fixed-at};
+ghost use Rattle.format.specs.Reply.{view-left, view-call};
+ghost use Rattle.byindex.proofs.RefusalsByIndex.{fixed-at};
 ghost use Rattle.blocks.specs.Parts.{fixed, fields-of};
 ghost use Rattle.places.specs.Located.{HasVariant, HasLeaner, place-in};
 use blocks::Fields;
@@ -18,12 +19,13 @@ use extents::kind_of;
 use extents::lengths_place;
 use extents::size_of;
 use format::FileVariant;
-use format::block_of;
-use format::in_block;
-use format::in_file;
+use format::HeaderReply;
 use numbers::number_at;
 use numbers::sum_lengths;
 use types::nearest_before;
+use variants::block_of;
+use variants::in_block;
+use variants::in_file;
 
 // A record's bytes are those from `start` to `end`; its type is its kind.
 pub struct Place {
@@ -81,4 +83,40 @@ pub fn anchor_of(file: &[u8], v: FileVariant) -> FileVariant
         block,
         nearest_before(file, b.at + block * b.full, in_block(v), b.half),
     )
+}
+
+// 01: "hands back the bytes of one record as a part of the caller's file". "A refused view is the empty part. A view checks 1 to 9 and 11 only."
+pub fn view<'a>(
+    file: &'a [u8],
+    variant: FileVariant,
+    refusal: &mut u8,
+    place: &mut usize,
+) -> &'a [u8]
+    ensures { λ r. ⌜ view-left (now (refusal .exit)) (now (place .exit)) (now r) ≡ view-call 65536 (now (file .entry)) variant ⌝ }
+{
+    match header::check(file) {
+        HeaderReply::Refused { number, place: at } => {
+            *refusal = number;
+            *place = at;
+            &file[..0]
+        }
+        HeaderReply::Accepted {
+            mode: _,
+            variants,
+            samples: _,
+            form: _,
+        } => {
+            if variants <= variant.0 {
+                *refusal = 11;
+                *place = 0;
+                return &file[..0];
+            }
+            let record = place_of(file, variant);
+            let start = record.start;
+            let end = record.end;
+            *refusal = 0;
+            *place = 0;
+            &file[start..end]
+        }
+    }
 }

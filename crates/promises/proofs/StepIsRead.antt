@@ -27,10 +27,10 @@ use Rattle.format.proofs.BodyLaws.{IsBody, body-as-written}
 use Rattle.format.proofs.RowLaws.{body-row}
 use Rattle.format.proofs.OffsetsLaws.{from-1-to-most}
 use Rattle.format.proofs.AnchorLaws.{types-allowed-at, anchor-after-leaning, anchor-after-standing}
-use Rattle.format.proofs.StartLaws.{body-length-at, record-end}
+use Rattle.byindex.proofs.StartLaws.{body-length-at, record-end}
 use Rattle.format.proofs.FileLaws.{one-type-each, bodies-are-bytes}
-use Rattle.format.proofs.InOrderLaws.{stands-alike}
-use Rattle.format.proofs.RecordTurns.{record-over}
+use Rattle.byindex.proofs.InOrderLaws.{stands-alike}
+use Rattle.byindex.proofs.RecordTurns.{record-over}
 use Rattle.format.proofs.CallRefusals.{variant-refusals}
 use Rattle.blocks.specs.Parts.{fields-of}
 use Rattle.extents.specs.Extent.{kind-at, size-at}

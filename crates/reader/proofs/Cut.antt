@@ -1,29 +1,25 @@
 -- A record of an accepted file, as code cuts it out of the file.
 -- Assumes nothing.
 use mathlib.Core.Path.{_≡_, refl, sym, ap, _∙_, subst}
-use mathlib.Core.Bool.{Bool, true, false, not, _&&_}
+use mathlib.Core.Bool.{Bool, _&&_}
 use Prim.Native.Nat.{ℕ, _+_, _-_, _≤_, _<_}
 use mathlib.Core.List.{List, []}
 use lib.ListN.{length, take, drop, getD, length-take}
 use lib.Seq.{take-add, drop-at}
-use lib.Dec.{ltb, eqb}
 use native.Mathlib.Omega.{arith}
-use borrow.Author.Tests.{ltb-true, eq-eqb}
 use Rattle.format.specs.declared.FileVariant.{FileVariant}
-use Rattle.format.specs.declared.BlockVariant.{BlockVariant}
 use Rattle.format.specs.Base.{Bytes, ok}
 use Rattle.format.specs.Track.{leans}
 use Rattle.format.specs.Body.{read-body}
 use Rattle.format.specs.Variant.{file-variant, next-variant, in-block}
-use Rattle.format.specs.Layout.{Layout, record-start, type-allowed}
+use Rattle.format.specs.Layout.{Layout, record-start}
 use Rattle.format.specs.Header.{read-layout}
 use Rattle.format.specs.File.{type-of}
-use Rattle.format.proofs.Rules.{never-both}
-use Rattle.format.proofs.StartLaws.{record-end}
-use Rattle.format.proofs.AnchorLaws.{types-allowed-at}
+use Rattle.byindex.proofs.StartLaws.{record-end}
+use Rattle.format.proofs.AnchorLaws.{allowed, types-allowed-at}
 use Rattle.format.proofs.FileLaws.{one-type-each, bodies-are-bytes}
 use Rattle.format.proofs.CallRefusals.{stored-bytes}
-use Rattle.format.proofs.RefusalsByIndex.{fixed-at}
+use Rattle.byindex.proofs.RefusalsByIndex.{fixed-at}
 use Rattle.blocks.specs.declared.Fields.{Fields}
 use Rattle.blocks.specs.Parts.{fixed, fields-of}
 use Rattle.places.specs.declared.Place.{Place}
@@ -33,17 +29,6 @@ use Rattle.extents.proofs.AcceptedLaws.{obeys, written, count-is}
 use Rattle.places.proofs.AcceptedLaws.{record-ends, place-is}
 use Rattle.places.proofs.FromReply.{part-is}
 use Rattle.record.specs.Recorded.{replied, recorded}
-
-pub both : (a b : Bool) → a && b ≡ true → (a ≡ true) × (b ≡ true)
-both true b h = (refl, h)
-both false b h = never-both h refl
-
--- a type that the header lets through
-pub allowed : (i : BlockVariant) (type : ℕ) → type-allowed i type ≡ true → (type < 8) × (type ≡ 5 → ⊥)
-allowed i type h =
-    let p = both (ltb type 8) (not (eqb type 5) && not (eqb (i .0) 0 && leans type)) h in
-    let q = both (not (eqb type 5)) (not (eqb (i .0) 0 && leans type)) (p .1) in
-    (ltb-true type 8 (p .0), λ e. never-both (q .0) (ap not (eq-eqb type 5 e)))
 
 module _ (bs : List ℕ) (y : Bytes bs) (l : Layout) (a : read-layout 65536 bs ≡ ok l []) where
   pub body-is-bytes : (v : ℕ) → Bytes (getD (l .bodies) v [])

@@ -1,3 +1,4 @@
+pub mod WorkLaws
 pub mod Replies
 pub mod Cut
 pub mod WalkLaws

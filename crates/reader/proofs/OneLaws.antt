@@ -17,8 +17,8 @@ use Rattle.format.specs.Header.{read-layout}
 use Rattle.format.specs.File.{type-of, read-over, read-variant}
 use Rattle.format.proofs.AnchorLaws.{IsAnchor, anchor-is}
 use Rattle.format.proofs.FileLaws.{one-type-each}
-use Rattle.format.proofs.InOrderLaws.{stands-alike}
-use Rattle.format.proofs.RecordTurns.{record-over, row-carried}
+use Rattle.byindex.proofs.InOrderLaws.{stands-alike}
+use Rattle.byindex.proofs.RecordTurns.{record-over, row-carried}
 use Rattle.places.specs.declared.Place.{Place}
 use Rattle.places.specs.Located.{place-in}
 use Rattle.extents.proofs.AcceptedLaws.{obeys}

@@ -20,8 +20,8 @@ use Rattle.format.specs.File.{read-all, type-of}
 use Rattle.format.proofs.OffsetsLaws.{from-1-to-positive}
 use Rattle.format.proofs.AnchorLaws.{stands-at}
 use Rattle.format.proofs.FileLaws.{one-type-each}
-use Rattle.format.proofs.RecordTurns.{outcome, left-to-check, record-over, then-check, all-left, none-left, turn-check, first-over-any, row-carried}
-use Rattle.format.proofs.RefusalsByIndex.{fixed-at}
+use Rattle.byindex.proofs.RecordTurns.{outcome, left-to-check, record-over, then-check, all-left, none-left, turn-check, first-over-any, row-carried}
+use Rattle.byindex.proofs.RefusalsByIndex.{fixed-at}
 use Rattle.blocks.specs.declared.Fields.{Fields}
 use Rattle.blocks.specs.Parts.{fixed, fields-of}
 use Rattle.extents.specs.Extent.{kind-at, size-at}

@@ -1,6 +1,7 @@
 // The records of a file that the header check accepts: all checked in order, or one read over its anchor.
 ghost use mathlib.Core.Path.{_≡_};
 ghost use mathlib.Core.List.{[]};
+ghost use Rattle.format.specs.declared.Reply.the-variants as reply;
 ghost use Rattle.format.specs.Base.{ok};
 ghost use Rattle.format.specs.Layout.{Layout};
 ghost use Rattle.format.specs.Header.{read-layout};
@@ -11,11 +12,12 @@ use blocks::header_end;
 use extents::kind_of;
 use extents::size_of;
 use format::FileVariant;
-use packed::clear;
+use format::Reply;
 use places::anchor_of;
 use places::place_of;
 use record::RecordReply;
 use record::read_body;
+use rowbytes::clear;
 use types::type_leans;
 
 // 01, Replies: "the whole-file check, which goes in variant order". The row holds the categories of the last record that leans on none, which is
@@ -66,4 +68,11 @@ pub fn read_row(file: &[u8], n: usize, v: FileVariant, row: &mut [u8]) -> Record
     } else {
         read_body(&file[..end], p.start, n, p.kind, false, row)
     }
+}
+
+// 01, Replies: 10, 11 and 21 have place 0. The calls over this crate give them before a record is looked at.
+pub fn refused(number: u8) -> Reply
+    ensures { λ r. ⌜ r ≡ reply.Refused number 0 ⌝ }
+{
+    Reply::Refused { number, place: 0 }
 }

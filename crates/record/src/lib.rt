@@ -4,7 +4,6 @@ use cursor::ByteStep;
 use cursor::Cursor;
 use difflist::ListRule;
 use difflist::ListStep;
-use format::Pair;
 use format::PairFound;
 use packed::PackedStep;
 use types::type_leans;
@@ -12,9 +11,9 @@ ghost use mathlib.Core.Path.{_≡_};
 ghost use Prim.Native.Nat.{_≤_, _<_};
 ghost use mathlib.Core.Bool.{false, _&&_};
 ghost use mathlib.Core.List.{_++_};
-ghost use lib.ListN.{length, take, drop, replicate};
+ghost use lib.ListN.{length, drop, replicate};
 ghost use Rattle.format.specs.Base.{pick};
-ghost use Rattle.format.specs.Track.{Kind, array, paired, against-anchor, against-category, kind, leans};
+ghost use Rattle.format.specs.Track.{array, paired, against-anchor, against-category, kind, leans};
 ghost use Rattle.difflist.specs.Entries.{out};
 ghost use Rattle.record.specs.Rows.{wiped, stored, pair-categories, tracked, turned};
 ghost use Rattle.record.specs.Recorded.{done, recorded};
@@ -61,7 +60,7 @@ fn read_pair(s: &[u8], start: usize, n: usize, row: &mut [u8]) -> ListStep
     match got {
         ByteStep::Refused { number, place } => ListStep::Refused { number, place },
         ByteStep::Byte(code, next) => {
-            let found = format::pair_of(code);
+            let found = pairs::pair_of(code);
             match found {
                 PairFound::Unknown => ListStep::Refused {
                     number: 14,
@@ -82,7 +81,7 @@ fn exchange_if(row: &mut [u8], n: usize, inverted: bool, keep: bool)
         return;
     }
     if inverted {
-        packed::exchange_row(row, n);
+        rowbytes::exchange_row(row, n);
     }
 }
 
@@ -110,7 +109,7 @@ fn read_sparse(s: &[u8], start: usize, n: usize, category: u8, row: &mut [u8]) -
     requires { ⌜ (start ≤ length (now s)) × (n ≤ 65536) × (n ≤ length (now row)) ⌝ }
     ensures { λ r. ⌜ wiped false n (out r (now (row .exit))) ≡ tracked false (against-category category) n (now (s .entry)) start (now (row .entry)) ⌝ }
 {
-    packed::fill(row, n, category);
+    rowbytes::fill(row, n, category);
     let c = Cursor { at: start };
     difflist::apply_list(s, n, ListRule::OffRow, true, c, row)
 }
@@ -143,7 +142,7 @@ fn clear_refused(row: &mut [u8], n: usize, kind: u8, keep: bool)
             return;
         }
     }
-    packed::clear(row, n);
+    rowbytes::clear(row, n);
 }
 
 // The record of a kind, from `start` on. The row's first n bytes hold the anchor's categories if the kind leans; they become the record's own,

@@ -16,14 +16,14 @@ use Rattle.format.specs.Track.{leans}
 use Rattle.format.specs.Variant.{in-block}
 use Rattle.format.specs.Layout.{most-samples, most-variants, Fixed, plain-mode, type-allowed}
 use Rattle.format.specs.Header.{type-place}
-use Rattle.format.proofs.Rules.{Holds, by-need, never-both}
-use Rattle.format.proofs.ByIndex.{type-at}
+use Rattle.format.proofs.Rules.{Holds, by-need, never-both, both}
+use Rattle.byindex.proofs.ByIndex.{type-at}
 use Rattle.blocks.specs.Parts.{fixed}
 use Rattle.extents.specs.Extent.{kind-at, size-at}
 use Rattle.places.specs.declared.Place.{Place}
-use Rattle.reader.proofs.Cut.{allowed, both}
+use Rattle.format.proofs.AnchorLaws.{allowed}
 use Rattle.rows.specs.declared.Rows.{Rows}
-use Rattle.rows.specs.Calls.{record-of, next-record, found, answered, Left, row-left, over-anchor, alone, read-at, stepped, next-row-call, Ready}
+use Rattle.rows.specs.Calls.{record-of, next-record, answered, Left, row-left, over-anchor, alone, read-at, stepped, next-row-call, Ready}
 
 -- in mode 0x02 every type is allowed
 never-leans : (i : BlockVariant) → type-allowed i 0 ≡ true

@@ -18,13 +18,13 @@ use extents::size_of;
 use format::FileVariant;
 use format::HeaderReply;
 use format::Reply;
-use format::in_block;
-use packed::copy;
 use places::Place;
 use record::RecordReply;
 use record::read_body;
+use rowbytes::copy;
 use types::type_allowed;
 use types::type_leans;
+use variants::in_block;
 
 // The next variant, where its record starts, and how the last record that leans on none was refused: 0 and 0 if it was accepted.
 pub struct Rows {

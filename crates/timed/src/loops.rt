@@ -54,7 +54,7 @@ pub extern "C" fn timed_copy(from: &[u8], n: usize, to: &mut [u8]) {
     if n > to.len() {
         return;
     }
-    packed::copy(from, n, to);
+    rowbytes::copy(from, n, to);
 }
 
 #[no_mangle]
@@ -62,7 +62,7 @@ pub extern "C" fn timed_clear(row: &mut [u8], n: usize) {
     if n > row.len() {
         return;
     }
-    packed::clear(row, n);
+    rowbytes::clear(row, n);
 }
 
 #[no_mangle]
@@ -70,7 +70,7 @@ pub extern "C" fn timed_exchange_row(row: &mut [u8], n: usize) {
     if n > row.len() {
         return;
     }
-    packed::exchange_row(row, n);
+    rowbytes::exchange_row(row, n);
 }
 
 // The list at `at` of the file cut where its record ends; against the row, as in all kinds but 1.

@@ -11,7 +11,7 @@ use Rattle.format.specs.Base.{pick}
 use Rattle.format.specs.Packed.{Bits}
 use Rattle.format.specs.Track.{leans}
 use Rattle.format.specs.Variant.{block-variant, nearest}
-use Rattle.format.proofs.ByIndex.{digit-at, digits-at}
+use Rattle.byindex.proofs.ByIndex.{digit-at, digits-at}
 
 -- one of the numbers by index
 digits-get : (bits : Bits) (i n k : ℕ) (bs : List ℕ) → k < n → getD (digits-at bits bs i n) k 0 ≡ digit-at bits bs (i + k)

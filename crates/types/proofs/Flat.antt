@@ -14,8 +14,8 @@ use Rattle.format.specs.Packed.{Bits, four, eight, more, packed-size}
 use Rattle.format.specs.Track.{leans}
 use Rattle.format.specs.Variant.{block-variant}
 use Rattle.format.specs.Layout.{type-allowed}
-use Rattle.format.proofs.ByIndex.{digit-at, digits-at}
-use Rattle.format.proofs.RefusalsByIndexTurns.{bad-in-block}
+use Rattle.byindex.proofs.ByIndex.{digit-at, digits-at}
+use Rattle.byindex.proofs.RefusalsByIndexTurns.{bad-in-block}
 use Rattle.types.specs.Fine.{Fine, FineByte, FineBytes}
 use Rattle.types.proofs.Types.{alone-allowed, later-allowed, leaner-refused}
 use Rattle.types.proofs.Scanning.{next-type}

@@ -10,8 +10,8 @@ use Rattle.format.specs.Base.{pick}
 use Rattle.format.specs.Packed.{Bits}
 use Rattle.format.specs.Variant.{block-variant}
 use Rattle.format.specs.Layout.{type-allowed}
-use Rattle.format.proofs.ByIndex.{digit-at, digits-at}
-use Rattle.format.proofs.RefusalsByIndexTurns.{bad-in-block}
+use Rattle.byindex.proofs.ByIndex.{digit-at, digits-at}
+use Rattle.byindex.proofs.RefusalsByIndexTurns.{bad-in-block}
 
 -- the first i types are allowed
 pub record Scanning (bs : List ℕ) (at n : ℕ) (bits : Bits) (i : ℕ) : Type 0 where

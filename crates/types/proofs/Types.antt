@@ -15,7 +15,7 @@ use Rattle.format.specs.Base.{pick}
 use Rattle.format.specs.Packed.{Bits, four, eight, more, packed-size}
 use Rattle.format.specs.Track.{leans}
 use Rattle.format.specs.Layout.{type-allowed}
-use Rattle.format.proofs.ByIndex.{digit-at}
+use Rattle.byindex.proofs.ByIndex.{digit-at}
 
 -- ---- one type
 

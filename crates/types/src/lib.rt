@@ -8,8 +8,8 @@ ghost use Rattle.format.specs.Packed.{four, eight, more, packed-size};
 ghost use Rattle.format.specs.Track.{leans};
 ghost use Rattle.format.specs.Variant.{block-variant, nearest};
 ghost use Rattle.format.specs.Layout.{type-allowed};
-ghost use Rattle.format.proofs.ByIndex.{digit-at, digits-at};
-ghost use Rattle.format.proofs.RefusalsByIndexTurns.{bad-in-block};
+ghost use Rattle.byindex.proofs.ByIndex.{digit-at, digits-at};
+ghost use Rattle.byindex.proofs.RefusalsByIndexTurns.{bad-in-block};
 ghost use Rattle.types.specs.Fine.{Fine, FineByte, FineBytes};
 use format::BlockVariant;
 

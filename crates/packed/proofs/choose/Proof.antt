@@ -3,7 +3,7 @@
 use native.Mathlib.Omega.{arith}
 use borrow.Author.Needs.{needs}
 use Rattle.packed.specs.Unpacked.{of-pair}
-use Rattle.packed.proofs.StoreLaws.{map-more}
+use Rattle.rowbytes.proofs.RowLaws.{map-more}
 use lib.ListN.{length, length-set, take, drop}
 use mathlib.Core.List.{_++_, map}
 use Prim.Native.Nat.{_-_, _≤_}
