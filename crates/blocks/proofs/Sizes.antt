@@ -56,7 +56,7 @@ pub all-bytes : (bs : List ℕ) → ((i : ℕ) → getD bs i 0 < 256) → Bytes 
 all-bytes [] h = tt
 all-bytes (x ∷ bs) h = (h 0, all-bytes bs (λ i. h (suc i)))
 
-pub byte-at : (bs : List ℕ) (i : ℕ) → Bytes bs → getD bs i 0 < 256
-byte-at [] i y = omega arith
-byte-at (x ∷ bs) zero y = y .0
-byte-at (x ∷ bs) (suc i) y = byte-at bs i (y .1)
+pub byte-below : (bs : List ℕ) (i : ℕ) → Bytes bs → getD bs i 0 < 256
+byte-below [] i y = omega arith
+byte-below (x ∷ bs) zero y = y .0
+byte-below (x ∷ bs) (suc i) y = byte-below bs i (y .1)

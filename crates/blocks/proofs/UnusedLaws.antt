@@ -12,7 +12,7 @@ use borrow.Author.Tests.{eq-eqb}
 use Rattle.format.specs.Base.{pick, Bytes}
 use Rattle.format.specs.Packed.{Bits, one, two, four, eight, limit, more, packed-size}
 use Rattle.byindex.proofs.UnusedBits.{unused-bits, unused-none, unused-bits-at}
-use Rattle.blocks.proofs.Sizes.{byte-at}
+use Rattle.blocks.proofs.Sizes.{byte-below}
 
 -- a number that fills its byte
 full-byte : (bits : Bits) → limit bits ^ suc (more bits) ≡ 256
@@ -33,7 +33,7 @@ pub none-unused : (bits : Bits) (n place : ℕ) (bs : List ℕ) → Bytes bs →
 none-unused bits zero place bs y e h = unused-none bits (drop place bs)
 none-unused bits (suc i) place bs y e h =
     unused-bits-at bits i place bs h
-    ∙ rw (last-digit bits i e, full-byte bits) (div-eq-of-lt (byte-at bs (place + i / suc (more bits)) y))
+    ∙ rw (last-digit bits i e, full-byte bits) (div-eq-of-lt (byte-below bs (place + i / suc (more bits)) y))
 
 -- types that have a byte each
 pub whole-types-clear : (half : Bool) (n place : ℕ) (bs : List ℕ) → Bytes bs → half ≡ false → place + packed-size (pick half four eight) n ≤ length bs

@@ -97,7 +97,7 @@ module _ (K : ℕ) (l : Layout) (p : zero < K) (h : LayoutObeys K l) where
           ∙ sym (ap (λ (b : Bool). pick b [] (body-categories (l .samples) [] body)) s))
 
   -- a record that stands has N categories
-  row-count : (v : ℕ) (lent : List ℕ) (body : Body) (left : List ℕ) → Bytes (getD (l .bodies) v []) → record-over K l v lent ≡ ok body left
+  pub row-count : (v : ℕ) (lent : List ℕ) (body : Body) (left : List ℕ) → Bytes (getD (l .bodies) v []) → record-over K l v lent ≡ ok body left
       → leans (type-of l (file-variant v)) ≡ false → length (body-categories (l .samples) lent body) ≡ l .samples
   row-count v lent body left y e s =
       let w : IsBody (l .samples) lent (type-of l (file-variant v)) (getD (l .bodies) v []) body left

@@ -14,7 +14,7 @@ use Rattle.format.specs.Base.{pick, Below}
 use Rattle.format.specs.Packed.{limit, more, byte-of, packed-after, packed}
 use Rattle.format.specs.Track.{bit-number}
 use Rattle.format.proofs.PackedLaws.{limit-positive}
-use Rattle.bytewriter.specs.Arrays.{width, numbers, array-bytes, byte-at}
+use Rattle.bytewriter.specs.Arrays.{width, numbers, array-bytes, array-byte}
 use Rattle.bytewriter.specs.declared.Array.{Array}
 use Rattle.bytewriter.specs.declared.Array.the-variants as array
 
@@ -131,13 +131,13 @@ module _ {a : Array} {categories : List ℕ} {len total : ℕ} {whole to : List 
   abbrev rest : List ℕ
   rest = packed (width a) (drop (i + suc (more (width a))) (numbers a categories))
 
-  turn : i < length categories → packed (width a) (drop i (numbers a categories)) ≡ byte-at a categories i ∷ rest
+  turn : i < length categories → packed (width a) (drop i (numbers a categories)) ≡ array-byte a categories i ∷ rest
   turn h = array-turn (limit (width a)) (more (width a)) i (numbers a categories) (omega (arith, numbers-length a categories))
 
   pub turn-room : i < length categories → place < total
   turn-room h = omega (arith, rw (turn h) at (v .ends))
 
-  pub turn-next : i < length categories → (byte samples : ℕ) → byte ≡ byte-at a categories i → samples ≡ suc (more (width a))
+  pub turn-next : i < length categories → (byte samples : ℕ) → byte ≡ array-byte a categories i → samples ≡ suc (more (width a))
       → Inv a categories len total whole (set to place byte) (place + 1) (i + samples)
   turn-next h byte samples e f =
       let q : i + samples ≡ i + suc (more (width a)) = ap (_+_ i) f in

@@ -22,5 +22,5 @@ abbrev pub array-bytes : Array → List ℕ → List ℕ
 array-bytes a categories = packed (width a) (numbers a categories)
 
 -- the byte that begins with sample i
-abbrev pub byte-at : Array → List ℕ → ℕ → ℕ
-byte-at a categories i = byte-of (limit (width a)) (suc (more (width a))) (drop i (numbers a categories))
+abbrev pub array-byte : Array → List ℕ → ℕ → ℕ
+array-byte a categories i = byte-of (limit (width a)) (suc (more (width a))) (drop i (numbers a categories))

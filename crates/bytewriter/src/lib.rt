@@ -8,7 +8,7 @@ ghost use Rattle.format.specs.Numbers.{number-bytes};
 ghost use Rattle.format.specs.Packed.{limit, more, byte-of, packed-size};
 ghost use Rattle.format.specs.Difflist.{number-width};
 ghost use Rattle.bytewriter.specs.Written.{Wrote};
-ghost use Rattle.bytewriter.specs.Arrays.{width, numbers, array-bytes, byte-at};
+ghost use Rattle.bytewriter.specs.Arrays.{width, numbers, array-bytes, array-byte};
 
 // 01, Categories and kinds: the two arrays of a record. Kind 0, "the packed array"; kind 1, "a bit per sample (set: the higher category of the pair)".
 pub enum Array {
@@ -109,7 +109,7 @@ fn number_at(array: Array, categories: &[u8], i: usize) -> u8
 // 01: "two bits per sample, lowest sample in the lowest bits". The byte that begins with sample i.
 fn four_categories(categories: &[u8], i: usize) -> u8
     requires { ⌜ Below 4 (now categories) × (i < length (now categories)) ⌝ }
-    ensures { λ r. ⌜ r ≡ byte-at Array.Categories (now (categories .entry)) i ⌝ }
+    ensures { λ r. ⌜ r ≡ array-byte Array.Categories (now (categories .entry)) i ⌝ }
 {
     let first = number_at(Array::Categories, categories, i);
     let second = number_at(Array::Categories, categories, i + 1);
@@ -134,7 +134,7 @@ fn four_bits(categories: &[u8], higher: u8, i: usize) -> u8
 // The byte of an array that begins with sample i.
 fn byte_of(array: Array, categories: &[u8], i: usize) -> u8
     requires { ⌜ Below 4 (now categories) × (i < length (now categories)) ⌝ }
-    ensures { λ r. ⌜ r ≡ byte-at array (now (categories .entry)) i ⌝ }
+    ensures { λ r. ⌜ r ≡ array-byte array (now (categories .entry)) i ⌝ }
 {
     match array {
         Array::Categories => four_categories(categories, i),

@@ -14,9 +14,9 @@ use Rattle.format.proofs.Rules.{Holds, below-drop}
 use Rattle.format.proofs.DifflistLaws.{IsList, list-as-written}
 use Rattle.cursor.proofs.ByteLaws.{bytes-of}
 use Rattle.cursor.specs.declared.Cursor.{Cursor}
-use Rattle.difflist.specs.Entries.{out}
+use Rattle.difflist.specs.Entries.{list-left}
 use Rattle.difflist.specs.Parts.{list-run}
-use Rattle.difflist.specs.Listed.{may-hold, replied, listed}
+use Rattle.difflist.specs.Listed.{may-hold, list-replied, listed}
 use Rattle.difflist.specs.declared.ListRule.{ListRule}
 use Rattle.difflist.specs.declared.ListStep.{ListStep}
 use Rattle.difflist.specs.declared.ListStep.the-variants.{Listed, Refused}
@@ -37,7 +37,7 @@ apply-within u es n row e h g =
     rw (take-append-drop n row) at (apply-first u 0 es (take n row) (drop n row) g k)
 
 within : (store : Bool) (u : Rule) (w end n : ℕ) (bs row : List ℕ) → u .samples ≡ n → n ≤ length row
-    → (o : Out (List Entry)) → Holds (IsList u w bs) o → applied store end n row o ≡ replied store end n row o
+    → (o : Out (List Entry)) → Holds (IsList u w bs) o → applied store end n row o ≡ list-replied store end n row o
 within true u w end n bs row e h (ok es left) k = rw (apply-within u es n row e h (k .rising))
 within false u w end n bs row e h (ok es left) k = refl
 within store u w end n bs row e h (refuse number place) k = refl
@@ -62,16 +62,16 @@ agrees l at n store held row y a h =
 
 -- the ways out of `apply_list`
 module _ (l : List ℕ) (at n : ℕ) (store : Bool) (held : ListRule) (row : List ℕ) (y : (i : ℕ) → getD l i 0 < 256) (a : at ≤ length l) (h : n ≤ length row)
-    (r : ListStep) (new : List ℕ) (e : out r new ≡ list-run l at n store held row) where
-  pub end-listed : (c : Cursor) → r ≡ Listed c → out (Listed c) new ≡ listed store held n l at row
+    (r : ListStep) (new : List ℕ) (e : list-left r new ≡ list-run l at n store held row) where
+  pub end-listed : (c : Cursor) → r ≡ Listed c → list-left (Listed c) new ≡ listed store held n l at row
   end-listed c q = rw (← e, q) at (agrees l at n store held row y a h)
 
-  refused : (number place : ℕ) → r ≡ Refused number place → out (Refused number place) (pick store (replicate n 0 ++ drop n new) new) ≡ listed store held n l at row
+  refused : (number place : ℕ) → r ≡ Refused number place → list-left (Refused number place) (pick store (replicate n 0 ++ drop n new) new) ≡ listed store held n l at row
   refused number place q = rw (← e, q) at (agrees l at n store held row y a h)
 
   pub end-cleared : (number place : ℕ) (last : List ℕ) → r ≡ Refused number place → store ≡ true → last ≡ replicate n 0 ++ drop n new
-      → out (Refused number place) last ≡ listed store held n l at row
+      → list-left (Refused number place) last ≡ listed store held n l at row
   end-cleared number place last q s f = rw f (let z : pick store (replicate n 0 ++ drop n new) new ≡ replicate n 0 ++ drop n new = rw s in rw z at (refused number place q))
 
-  pub end-kept : (number place : ℕ) → r ≡ Refused number place → store ≡ false → out (Refused number place) new ≡ listed store held n l at row
+  pub end-kept : (number place : ℕ) → r ≡ Refused number place → store ≡ false → list-left (Refused number place) new ≡ listed store held n l at row
   end-kept number place q s = let z : pick store (replicate n 0 ++ drop n new) new ≡ new = rw s in rw z at (refused number place q)

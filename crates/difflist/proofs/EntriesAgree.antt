@@ -25,7 +25,7 @@ use Rattle.cursor.proofs.VarintLaws.{Read, was-read, was-refused}
 use Rattle.cursor.specs.declared.Cursor.{Cursor}
 use Rattle.cursor.specs.declared.VarintStep.{VarintStep}
 use Rattle.cursor.specs.declared.VarintStep.the-variants.{Value, Refused as BadVarint}
-use Rattle.difflist.specs.Entries.{turn, kept, number-at, value-at, allows, take-head, take-step, next-sample, put-value, go-on, all-entries, Outcome, out, bump}
+use Rattle.difflist.specs.Entries.{turn, kept, number-at, value-at, allows, take-head, take-step, next-sample, put-value, go-on, all-entries, ListLeft, list-left, bump}
 use Rattle.difflist.specs.Listed.{may-hold}
 use Rattle.difflist.specs.declared.ListRule.{ListRule}
 use Rattle.difflist.specs.declared.State.{State}
@@ -57,18 +57,18 @@ sizes-many (suc g) l p = ap suc (sizes-many g l (p + 1))
 
 -- ---- what a reading does to a row, and a walk whose row is then cleared
 
-abbrev pub applied : Bool → ℕ → ℕ → List ℕ → Out (List Entry) → Outcome
-applied store end n row (ok es left) = out (Listed (before end left)) (pick store (apply es row) row)
-applied store end n row (refuse number place) = out (Refused number place) (pick store (replicate n 0 ++ drop n row) row)
+abbrev pub applied : Bool → ℕ → ℕ → List ℕ → Out (List Entry) → ListLeft
+applied store end n row (ok es left) = list-left (Listed (before end left)) (pick store (apply es row) row)
+applied store end n row (refuse number place) = list-left (Refused number place) (pick store (replicate n 0 ++ drop n row) row)
 
-abbrev pub cleared : Bool → ℕ → Outcome → Outcome
-cleared store n (out (Listed c) row) = out (Listed c) row
-cleared store n (out (Refused number place) row) = out (Refused number place) (pick store (replicate n 0 ++ drop n row) row)
+abbrev pub cleared : Bool → ℕ → ListLeft → ListLeft
+cleared store n (list-left (Listed c) row) = list-left (Listed c) row
+cleared store n (list-left (Refused number place) row) = list-left (Refused number place) (pick store (replicate n 0 ++ drop n row) row)
 
 applied-cons : (store : Bool) (end n : ℕ) (row : List ℕ) (s v : ℕ) (m : Out (List Entry)) → s < n
     → applied store end n (kept store row s v) m ≡ applied store end n row (map-out (_∷_ (record { sample = s; value = v })) m)
 applied-cons true end n row s v (ok es left) h = refl
-applied-cons true end n row s v (refuse number place) h = ap (λ (d : List ℕ). out (Refused number place) (replicate n 0 ++ d)) (drop-set-lt n row s v h)
+applied-cons true end n row s v (refuse number place) h = ap (λ (d : List ℕ). list-left (Refused number place) (replicate n 0 ++ d)) (drop-set-lt n row s v h)
 applied-cons false end n row s v (ok es left) h = refl
 applied-cons false end n row s v (refuse number place) h = refl
 
@@ -88,7 +88,7 @@ module _ (l : List ℕ) (y : (i : ℕ) → getD l i 0 < 256) (n : ℕ) (store : 
   parts = record { end = length l; width = number-width n; heads-end = he; sizes-end = vals; count = count }
 
   -- one entry, whose sample is t's, and what follows
-  entry-agrees : (lo q : ℕ) (t : State) (work : List ℕ) (m : ℕ) (rest : Out (List Entry)) (go : State → List ℕ → Outcome)
+  entry-agrees : (lo q : ℕ) (t : State) (work : List ℕ) (m : ℕ) (rest : Out (List Entry)) (go : State → List ℕ → ListLeft)
       → t .passed + suc m ≡ count
       → (lo ≤ t .last → t .last < n → getD work (t .last) 0 ≡ getD base (t .last) 1)
       → (lo ≤ t .last → t .last < n → cleared store n (go (bump t) (kept store work (t .last) (value-at l vals (t .passed)))) ≡ applied store (length l) n (kept store work (t .last) (value-at l vals (t .passed))) rest)
@@ -123,7 +123,7 @@ module _ (l : List ℕ) (y : (i : ℕ) → getD l i 0 < 256) (n : ℕ) (store : 
     pub counts : st .passed + m ≡ count
     pub later : (j : ℕ) → st .last < j → j < n → getD work j 0 ≡ getD base j 1
 
-  abbrev pub rest : ℕ → State → List ℕ → Outcome
+  abbrev pub rest : ℕ → State → List ℕ → ListLeft
   rest m st work = all-entries m l n vals store held st work
 
   abbrev pub their : ℕ → ℕ → ℕ → ℕ → State → Out (List Entry)
@@ -169,7 +169,7 @@ module _ (l : List ℕ) (y : (i : ℕ) → getD l i 0 < 256) (n : ℕ) (store : 
       rw (q .reads, here l (st .at) i)
       (entry-agrees (suc (st .last)) (st .at) (stepped d x st) work m (their c g m (acc + length (varint-bytes d)) (bump (stepped d x st))) (λ st work. rest m st work) k (λ h f. later (st .last + d) h f) (λ h f. ih d x q h f))
 
-  refused : (number place : ℕ) (work : List ℕ) (m : ℕ) → cleared store n (go-on (put-value l vals store held (Stop number place) work) (λ st work. rest m st work)) ≡ out (Refused number place) (pick store (replicate n 0 ++ drop n work) work)
+  refused : (number place : ℕ) (work : List ℕ) (m : ℕ) → cleared store n (go-on (put-value l vals store held (Stop number place) work) (λ st work. rest m st work)) ≡ list-left (Refused number place) (pick store (replicate n 0 ++ drop n work) work)
   unfolding put-value
   refused number place work m = refl
 

@@ -24,7 +24,7 @@ use Rattle.cursor.proofs.VarintLaws.{Read, was-read, was-refused}
 use Rattle.cursor.specs.declared.Cursor.{Cursor}
 use Rattle.cursor.specs.declared.VarintStep.{VarintStep}
 use Rattle.cursor.specs.declared.VarintStep.the-variants.{Value, Refused as BadVarint}
-use Rattle.difflist.specs.Entries.{number-at, value-at, kept, take-head, next-sample, all-entries, Outcome, out, bump}
+use Rattle.difflist.specs.Entries.{number-at, value-at, kept, take-head, next-sample, all-entries, ListLeft, list-left, bump}
 use Rattle.difflist.specs.Parts.{count-of, sizes-at, values-at, steps-at, lay-out, laid-out, counted-out, list-run}
 use Rattle.difflist.specs.Listed.{may-hold}
 use Rattle.difflist.specs.declared.ListRule.{ListRule}
@@ -39,7 +39,7 @@ module _ (l : List ℕ) (y : (i : ℕ) → getD l i 0 < 256) (n : ℕ) (store : 
   abbrev asked : Rule
   asked = rule n (may-hold held base)
 
-  abbrev Same : Outcome → Out (List Entry) → Type 0
+  abbrev Same : ListLeft → Out (List Entry) → Type 0
   Same o m = cleared store n o ≡ applied store (length l) n work m
 
   number-first : (st : State) → st .room ≡ 0 → st .passed ≡ 0 → next-sample l n st ≡ take-head l n 0 (st .size) st
@@ -131,7 +131,7 @@ module _ (l : List ℕ) (y : (i : ℕ) → getD l i 0 < 256) (n : ℕ) (store : 
         (λ h. rw (body-short h) (lay-short h))
 
   none : (m : ℕ) (c : Cursor) → m ≡ 0 → c .at ≤ length l
-      → Same (pick (eqb m 0) (out (Listed c) work) (laid-out (lay-out l n m (c .at)) m l n store held work)) (read-parts asked (number-width n) (length l) m (drop (c .at) l))
+      → Same (pick (eqb m 0) (list-left (Listed c) work) (laid-out (lay-out l n m (c .at)) m l n store held work)) (read-parts asked (number-width n) (length l) m (drop (c .at) l))
   unfolding read-parts read-numbers read-bytes read-packed-after read-first
   none zero c z h = let e : length l - length (drop (c .at) l) ≡ c .at = here l (c .at) h in rw (e, pick-same)
   none (suc m) c z h = absurd (omega arith)

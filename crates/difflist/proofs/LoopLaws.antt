@@ -8,7 +8,7 @@ use mathlib.Core.List.{List}
 use lib.ListN.{getD, length}
 use Rattle.cursor.specs.Steps.{varint-at}
 use Rattle.cursor.proofs.ShortLaws.{one-byte}
-use Rattle.difflist.specs.Entries.{value-at, allows, next-sample, turn, kept, bump, next-entry, all-entries, Outcome, out}
+use Rattle.difflist.specs.Entries.{value-at, allows, next-sample, turn, kept, bump, next-entry, all-entries, ListLeft, list-left}
 use Rattle.difflist.specs.Room.{Short}
 use Rattle.difflist.specs.Walked.{Walked}
 use Rattle.difflist.specs.declared.ListRule.{ListRule}
@@ -19,15 +19,15 @@ use Rattle.difflist.specs.declared.ListStep.the-variants.{Listed, Refuse
 use Rattle.difflist.proofs.TurnLaws.{step-on, number-step, put-on, entry-on}
 use Rattle.difflist.proofs.RoomLaws.{entered, Entered}
 
-module _ {l : List ℕ} {n vals : ℕ} {store : Bool} {held : ListRule} {len : ℕ} {whole : Outcome} {work : List ℕ} {st : State} {more : ℕ} (i : Walked l n vals store held len whole work st more) where
+module _ {l : List ℕ} {n vals : ℕ} {store : Bool} {held : ListRule} {len : ℕ} {whole : ListLeft} {work : List ℕ} {st : State} {more : ℕ} (i : Walked l n vals store held len whole work st more) where
   opened : 0 < more → all-entries (suc (more - 1)) l n vals store held st work ≡ whole
   opened p = let e : suc (more - 1) ≡ more = omega arith in rw e (i .same)
 
-  pub turn-done : more ≤ 0 → out (Listed (record { at = st .at })) work ≡ whole
+  pub turn-done : more ≤ 0 → list-left (Listed (record { at = st .at })) work ≡ whole
   unfolding all-entries
   turn-done p = let e : 0 ≡ more = omega arith in rw (← e) at (i .same)
 
-  pub turn-stop : 0 < more → {r : EntryStep} {last : List ℕ} → turn r last ≡ next-entry l n vals store held st work → {number place : ℕ} → r ≡ Stop number place → out (Refused number place) last ≡ whole
+  pub turn-stop : 0 < more → {r : EntryStep} {last : List ℕ} → turn r last ≡ next-entry l n vals store held st work → {number place : ℕ} → r ≡ Stop number place → list-left (Refused number place) last ≡ whole
   unfolding all-entries
   turn-stop p e q = rw (← e, q) at (opened p)
 

@@ -16,7 +16,7 @@ use Rattle.cursor.proofs.VarintLaws.{Read, was-read}
 use Rattle.cursor.specs.declared.VarintStep.{VarintStep}
 use Rattle.cursor.specs.declared.VarintStep.the-variants.{Value, Refused as BadVarint}
 use Rattle.difflist.specs.Entries.{number-at, value-at, allows, take-head, take-step, next-sample, turn, kept, put-value, next-entry, Turn, bump}
-use Rattle.difflist.specs.Room.{Room, Ready}
+use Rattle.difflist.specs.Room.{Room, EntryReady}
 use Rattle.difflist.specs.declared.ListRule.{ListRule}
 use Rattle.difflist.specs.declared.State.{State}
 use Rattle.difflist.specs.declared.EntryStep.{EntryStep}
@@ -32,7 +32,7 @@ kept-length false row sample value = refl
 one-head : (w g h : ℕ) → g ≡ suc h → w * g ≡ w * h + w
 one-head w g h e = rw e (mul-suc w h)
 
-pub ready : (l : List ℕ) (n vals more : ℕ) (st : State) → 0 < more → Room l n vals more st → Ready l n st
+pub ready : (l : List ℕ) (n vals more : ℕ) (st : State) → 0 < more → Room l n vals more st → EntryReady l n st
 ready l n vals more st p r =
     record {
       few = omega (arith, r .few);

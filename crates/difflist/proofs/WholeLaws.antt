@@ -19,7 +19,7 @@ use Rattle.cursor.proofs.VarintLaws.{was-read}
 use Rattle.cursor.specs.declared.Cursor.{Cursor}
 use Rattle.cursor.specs.declared.VarintStep.{VarintStep}
 use Rattle.cursor.specs.declared.VarintStep.the-variants.{Value, Refused as BadVarint}
-use Rattle.difflist.specs.Entries.{Outcome, out, all-entries}
+use Rattle.difflist.specs.Entries.{ListLeft, list-left, all-entries}
 use Rattle.difflist.specs.Parts.{count-of, sizes-at, values-at, steps-at, lay-out, list-run}
 use Rattle.difflist.specs.Room.{Room}
 use Rattle.difflist.specs.declared.ListRule.{ListRule}
@@ -63,21 +63,21 @@ module _ (l : List ℕ) (n m at w : ℕ) (e : w ≡ number-width n) where
   lay-fits h x q z = let q′ : x ≡ unused two l (values-at n m at) m = rw e at q in rw e (simp (le-leb (steps-at n m at) (length l) (rw e at h), ← q′, eq-eqb x 0 z))
 
 module _ (l : List ℕ) (at n : ℕ) (store : Bool) (held : ListRule) (work : List ℕ) (r : CountStep) (e : r ≡ count-of (varint-at l at) n at) where
-  pub list-not : (number place : ℕ) → r ≡ NotOf number place → out (Refused number place) work ≡ list-run l at n store held work
+  pub list-not : (number place : ℕ) → r ≡ NotOf number place → list-left (Refused number place) work ≡ list-run l at n store held work
   unfolding list-run
   list-not number place q = rw (← e, q)
 
   module _ (m : ℕ) (c : Cursor) (q : r ≡ Of m c) where
-    pub list-none : m ≡ 0 → out (Listed c) work ≡ list-run l at n store held work
+    pub list-none : m ≡ 0 → list-left (Listed c) work ≡ list-run l at n store held work
     unfolding list-run
     list-none z = rw (← e, q) (simp (eq-eqb m 0 z))
 
     module _ (z : m ≡ 0 → ⊥) (d : PartsStep) (f : d ≡ lay-out l n m (c .at)) where
-      pub list-unfit : (number place : ℕ) → d ≡ Unfit number place → out (Refused number place) work ≡ list-run l at n store held work
+      pub list-unfit : (number place : ℕ) → d ≡ Unfit number place → list-left (Refused number place) work ≡ list-run l at n store held work
       unfolding list-run
       list-unfit number place p = rw (← e, q) (simp (ne-eqb m 0 z, ← f, p))
 
-      pub list-fits : (vals : ℕ) (st : State) → d ≡ Fits vals st → (o : Outcome) → o ≡ all-entries m l n vals store held st work → o ≡ list-run l at n store held work
+      pub list-fits : (vals : ℕ) (st : State) → d ≡ Fits vals st → (o : ListLeft) → o ≡ all-entries m l n vals store held st work → o ≡ list-run l at n store held work
       unfolding list-run
       list-fits vals st p o h = rw (← e, q) (simp (ne-eqb m 0 z, ← f, p) h)
 

@@ -83,14 +83,14 @@ abbrev pub next-entry : List ℕ → ℕ → ℕ → Bool → ListRule → State
 next-entry l n vals store held st row = put-value l vals store held (next-sample l n st) row
 
 -- a reply, with what the row then holds
-pub data Outcome : Type 0 where
-  out : ListStep → List ℕ → Outcome
+pub data ListLeft : Type 0 where
+  list-left : ListStep → List ℕ → ListLeft
 
-abbrev pub go-on : Turn → (State → List ℕ → Outcome) → Outcome
-go-on (turn (Stop number place) row) f = out (Refused number place) row
+abbrev pub go-on : Turn → (State → List ℕ → ListLeft) → ListLeft
+go-on (turn (Stop number place) row) f = list-left (Refused number place) row
 go-on (turn (On st) row) f = f st row
 
 -- `more` entries
-unfoldable pub all-entries : ℕ → List ℕ → ℕ → ℕ → Bool → ListRule → State → List ℕ → Outcome
-all-entries zero l n vals store held st row = out (Listed (record { at = st .at })) row
+unfoldable pub all-entries : ℕ → List ℕ → ℕ → ℕ → Bool → ListRule → State → List ℕ → ListLeft
+all-entries zero l n vals store held st row = list-left (Listed (record { at = st .at })) row
 all-entries (suc more) l n vals store held st row = go-on (next-entry l n vals store held st row) (λ st row. all-entries more l n vals store held st row)

@@ -8,7 +8,7 @@ use Rattle.format.specs.Base.{pick, Out, ok, refuse}
 use Rattle.format.specs.Difflist.{Entry, number-width, read-list}
 use Rattle.format.specs.Track.{rule, apply}
 use Rattle.cursor.specs.Steps.{before}
-use Rattle.difflist.specs.Entries.{allows, Outcome, out}
+use Rattle.difflist.specs.Entries.{allows, ListLeft, list-left}
 use Rattle.difflist.specs.declared.ListRule.{ListRule}
 use Rattle.difflist.specs.declared.ListStep.the-variants.{Listed, Refused}
 
@@ -17,10 +17,10 @@ abbrev pub may-hold : ListRule → List ℕ → ℕ → ℕ → Bool
 may-hold held categories sample value = allows held (getD categories sample 1) value
 
 -- an accepted list is applied to the row's first n bytes; after a refusal they are zero. Without `store` the row stays.
-abbrev pub replied : Bool → ℕ → ℕ → List ℕ → Out (List Entry) → Outcome
-replied store end n row (ok es left) = out (Listed (before end left)) (pick store (apply es (take n row) ++ drop n row) row)
-replied store end n row (refuse number place) = out (Refused number place) (pick store (replicate n 0 ++ drop n row) row)
+abbrev pub list-replied : Bool → ℕ → ℕ → List ℕ → Out (List Entry) → ListLeft
+list-replied store end n row (ok es left) = list-left (Listed (before end left)) (pick store (apply es (take n row) ++ drop n row) row)
+list-replied store end n row (refuse number place) = list-left (Refused number place) (pick store (replicate n 0 ++ drop n row) row)
 
 -- the list at `at`, over n samples, of a record that ends where the list l does
-unfoldable pub listed : Bool → ListRule → ℕ → List ℕ → ℕ → List ℕ → Outcome
-listed store held n l at row = replied store (length l) n row (read-list (rule n (may-hold held (take n row))) (number-width n) (length l) (drop at l))
+unfoldable pub listed : Bool → ListRule → ℕ → List ℕ → ℕ → List ℕ → ListLeft
+listed store held n l at row = list-replied store (length l) n row (read-list (rule n (may-hold held (take n row))) (number-width n) (length l) (drop at l))

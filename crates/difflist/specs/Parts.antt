@@ -12,7 +12,7 @@ use Rattle.cursor.specs.Steps.{varint-at}
 use Rattle.cursor.specs.declared.VarintStep.{VarintStep}
 use Rattle.cursor.specs.declared.VarintStep.the-variants.{Value, Refused as BadVarint}
 use Rattle.packed.specs.Arrays.{unused}
-use Rattle.difflist.specs.Entries.{Outcome, out, all-entries}
+use Rattle.difflist.specs.Entries.{ListLeft, list-left, all-entries}
 use Rattle.difflist.specs.declared.ListRule.{ListRule}
 use Rattle.difflist.specs.declared.CountStep.{CountStep}
 use Rattle.difflist.specs.declared.CountStep.the-variants.{Of, NotOf}
@@ -43,13 +43,13 @@ lay-out l n m at =
     (Unfit 18 (steps-at n m at - 1)))
     (Unfit 12 (length l))
 
-abbrev pub laid-out : PartsStep → ℕ → List ℕ → ℕ → Bool → ListRule → List ℕ → Outcome
-laid-out (Unfit number place) m l n store held row = out (Refused number place) row
+abbrev pub laid-out : PartsStep → ℕ → List ℕ → ℕ → Bool → ListRule → List ℕ → ListLeft
+laid-out (Unfit number place) m l n store held row = list-left (Refused number place) row
 laid-out (Fits vals st) m l n store held row = all-entries m l n vals store held st row
 
-abbrev pub counted-out : CountStep → List ℕ → ℕ → Bool → ListRule → List ℕ → Outcome
-counted-out (NotOf number place) l n store held row = out (Refused number place) row
-counted-out (Of m c) l n store held row = pick (eqb m 0) (out (Listed c) row) (laid-out (lay-out l n m (c .at)) m l n store held row)
+abbrev pub counted-out : CountStep → List ℕ → ℕ → Bool → ListRule → List ℕ → ListLeft
+counted-out (NotOf number place) l n store held row = list-left (Refused number place) row
+counted-out (Of m c) l n store held row = pick (eqb m 0) (list-left (Listed c) row) (laid-out (lay-out l n m (c .at)) m l n store held row)
 
-unfoldable pub list-run : List ℕ → ℕ → ℕ → Bool → ListRule → List ℕ → Outcome
+unfoldable pub list-run : List ℕ → ℕ → ℕ → Bool → ListRule → List ℕ → ListLeft
 list-run l at n store held row = counted-out (count-of (varint-at l at) n at) l n store held row

@@ -5,12 +5,12 @@ use Prim.Native.Nat.{ℕ}
 use mathlib.Core.Bool.{Bool}
 use mathlib.Core.List.{List}
 use lib.ListN.{length}
-use Rattle.difflist.specs.Entries.{all-entries, Outcome}
+use Rattle.difflist.specs.Entries.{all-entries, ListLeft}
 use Rattle.difflist.specs.Room.{Room}
 use Rattle.difflist.specs.declared.ListRule.{ListRule}
 use Rattle.difflist.specs.declared.State.{State}
 
-pub record Walked (l : List ℕ) (n vals : ℕ) (store : Bool) (held : ListRule) (len : ℕ) (whole : Outcome) (row : List ℕ) (st : State) (more : ℕ) : Type 0 where
+pub record Walked (l : List ℕ) (n vals : ℕ) (store : Bool) (held : ListRule) (len : ℕ) (whole : ListLeft) (row : List ℕ) (st : State) (more : ℕ) : Type 0 where
   pub same : all-entries more l n vals store held st row ≡ whole
   pub room : Room l n vals more st
   pub keeps : length row ≡ len

@@ -14,9 +14,9 @@ ghost use lib.ListN.{length};
 ghost use Rattle.format.specs.Difflist.{number-width};
 ghost use Rattle.cursor.specs.Steps.{varint-at};
 ghost use Rattle.difflist.specs.declared.EntryStep.the-variants.{On};
-ghost use Rattle.difflist.specs.Room.{Room, Ready, Short};
+ghost use Rattle.difflist.specs.Room.{Room, EntryReady, Short};
 ghost use Rattle.difflist.specs.Walked.{Walked};
-ghost use Rattle.difflist.specs.Entries.{number-at, allows, take-head, take-step, next-sample, turn, kept, put-value, next-entry, out, all-entries};
+ghost use Rattle.difflist.specs.Entries.{number-at, allows, take-head, take-step, next-sample, turn, kept, put-value, next-entry, list-left, all-entries};
 
 // 01, Difference lists: "1 byte if N is at most 256, else 2".
 pub fn number_width(n: usize) -> usize
@@ -82,7 +82,7 @@ fn take_head(s: &[u8], n: usize, least: usize, size: usize, st: State) -> EntryS
 
 // "the step from the sample before it in its group": at least 1, and to a sample below n.
 fn take_step(s: &[u8], n: usize, st: State) -> EntryStep
-    requires { ⌜ Ready (now s) n st × (0 < st .room) ⌝ }
+    requires { ⌜ EntryReady (now s) n st × (0 < st .room) ⌝ }
     ensures { λ r. ⌜ r ≡ take-step (varint-at (now (s .entry)) (st .at)) n st ⌝ }
 {
     let at = st.at;
@@ -115,7 +115,7 @@ fn take_step(s: &[u8], n: usize, st: State) -> EntryStep
 
 // The next sample: a head, after the size byte of the group before it ("63 less than the byte size of its group's varints"), or a step.
 fn next_sample(s: &[u8], n: usize, st: State) -> EntryStep
-    requires { ⌜ Ready (now s) n st ⌝ }
+    requires { ⌜ EntryReady (now s) n st ⌝ }
     ensures { λ r. ⌜ r ≡ next-sample (now (s .entry)) n st ⌝ }
 {
     if st.room != 0 {
@@ -183,7 +183,7 @@ fn next_entry(
     st: State,
     row: &mut [u8],
 ) -> EntryStep
-    requires { ⌜ Ready (now s) n st ⌝ }
+    requires { ⌜ EntryReady (now s) n st ⌝ }
     requires { ⌜ n ≤ length (now row) ⌝ }
     requires { ⌜ values + st .passed / 4 < length (now s) ⌝ }
     ensures { λ r. ⌜ turn r (now (row .exit)) ≡ next-entry (now (s .entry)) n values store held st (now (row .entry)) ⌝ }
@@ -270,7 +270,7 @@ pub fn all_entries(
 ) -> ListStep
     requires { ⌜ Room (now s) n values count first ⌝ }
     requires { ⌜ n ≤ length (now row) ⌝ }
-    ensures { λ r. ⌜ out r (now (row .exit)) ≡ all-entries count (now (s .entry)) n values store held first (now (row .entry)) ⌝ }
+    ensures { λ r. ⌜ list-left r (now (row .exit)) ≡ all-entries count (now (s .entry)) n values store held first (now (row .entry)) ⌝ }
 {
     let mut st = first;
     let mut more = count;

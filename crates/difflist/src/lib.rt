@@ -7,7 +7,7 @@ ghost use mathlib.Core.Path.{_≡_};
 ghost use Prim.Native.Nat.{_≤_, _<_};
 ghost use lib.ListN.{length};
 ghost use Rattle.cursor.specs.Steps.{varint-at};
-ghost use Rattle.difflist.specs.Entries.{out};
+ghost use Rattle.difflist.specs.Entries.{list-left};
 ghost use Rattle.difflist.specs.Parts.{count-of, lay-out, list-run};
 ghost use Rattle.difflist.specs.Listed.{listed};
 
@@ -121,7 +121,7 @@ fn lay_parts(s: &[u8], n: usize, m: usize, at: usize) -> PartsStep
 fn run_list(s: &[u8], n: usize, held: ListRule, store: bool, c: Cursor, row: &mut [u8]) -> ListStep
     requires { ⌜ c .at ≤ length (now s) ⌝ }
     requires { ⌜ (n ≤ length (now row)) × (n ≤ 65536) ⌝ }
-    ensures { λ r. ⌜ out r (now (row .exit)) ≡ list-run (now (s .entry)) (c .at) n store held (now (row .entry)) ⌝ }
+    ensures { λ r. ⌜ list-left r (now (row .exit)) ≡ list-run (now (s .entry)) (c .at) n store held (now (row .entry)) ⌝ }
 {
     let counted = read_count(s, n, c);
     match counted {
@@ -153,7 +153,7 @@ pub fn apply_list(
 ) -> ListStep
     requires { ⌜ c .at ≤ length (now s) ⌝ }
     requires { ⌜ (n ≤ length (now row)) × (n ≤ 65536) ⌝ }
-    ensures { λ r. ⌜ out r (now (row .exit)) ≡ listed store held n (now (s .entry)) (c .at) (now (row .entry)) ⌝ }
+    ensures { λ r. ⌜ list-left r (now (row .exit)) ≡ listed store held n (now (s .entry)) (c .at) (now (row .entry)) ⌝ }
 {
     let got = run_list(s, n, held, store, c, row);
     match got {

@@ -26,7 +26,7 @@ use Rattle.places.specs.Located.{HasLayout}
 use Rattle.places.proofs.FromReply.{reply-accepted, reply-refused}
 use Rattle.record.specs.declared.RecordReply.{RecordReply}
 use Rattle.record.specs.declared.RecordReply.the-variants as of
-use Rattle.record.specs.Recorded.{done}
+use Rattle.record.specs.Recorded.{record-left}
 use Rattle.flipfile.specs.Accepted as whole
 use Rattle.reader.specs.Rows.{HasRow, all-checked}
 use Rattle.extents.proofs.AcceptedLaws.{obeys, written}
@@ -76,8 +76,8 @@ module _ (bs set work : List ℕ) (y : Bytes bs) (r : HeaderReply) (e : header-l
         has-row = record { layout = has .layout; accepted = has .accepted; room = omega (arith, has .samples-are) }
 
         module _ (clear : past-last variants set ≡ 0) (got : RecordReply) (work₁ : List ℕ)
-            (d : (l : Layout) → read-layout 65536 bs ≡ ok l [] → done got work₁ ≡ all-checked l work) where
-          found : done got work₁ ≡ all-checked (has .layout) work
+            (d : (l : Layout) → read-layout 65536 bs ≡ ok l [] → record-left got work₁ ≡ all-checked l work) where
+          found : record-left got work₁ ≡ all-checked (has .layout) work
           found = d (has .layout) (has .accepted)
 
           left-work : work₁ ≡ emptied samples work

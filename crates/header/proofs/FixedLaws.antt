@@ -17,7 +17,7 @@ use Rattle.byindex.proofs.ByIndex.{number-at}
 use Rattle.byindex.proofs.RefusalsByIndex.{fixed-at, refusal-1, after-fixed, refusals-2-to-5, refusal-6, form-byte-at, passed-2-to-5}
 use Rattle.blocks.specs.declared.Fields.{Fields}
 use Rattle.blocks.specs.Parts.{fixed, fields-of}
-use Rattle.header.specs.Ready.{Ready, Held}
+use Rattle.header.specs.Ready.{FieldsPassed, Held}
 use Rattle.header.proofs.Handed.{refused}
 
 -- 1
@@ -66,7 +66,7 @@ module _ (bs : List ℕ) (h : 12 ≤ length bs) (right : fixed-at bs .magic ≡ 
           same : fixed-at bs ≡ fixed f
           same = rw (e, ← right) refl
 
-          pub ready : Ready bs f
+          pub ready : FieldsPassed bs f
           ready = record {
             long = h;
             bytes = y;
@@ -87,9 +87,9 @@ module _ (bs : List ℕ) (h : 12 ≤ length bs) (right : fixed-at bs .magic ≡ 
 
 -- 6
 
-pub inside : (bs : List ℕ) (f : Fields) (end : ℕ) → Ready bs f → end ≡ header-end 65536 (fixed f) → length bs < end
+pub inside : (bs : List ℕ) (f : Fields) (end : ℕ) → FieldsPassed bs f → end ≡ header-end 65536 (fixed f) → length bs < end
     → header-left (Refused 6 (length bs)) ≡ summary (after-fixed 65536 bs)
 inside bs f end r e l = refused 6 (length bs) (after-fixed 65536 bs) (refusal-6 65536 bs (r .long) (rw (r .same, ← e) l))
 
-pub held : (bs : List ℕ) (f : Fields) (end : ℕ) → Ready bs f → end ≡ header-end 65536 (fixed f) → end ≤ 134217728 → end ≤ length bs → Held bs f end
+pub held : (bs : List ℕ) (f : Fields) (end : ℕ) → FieldsPassed bs f → end ≡ header-end 65536 (fixed f) → end ≤ 134217728 → end ≤ length bs → Held bs f end
 held bs f end r e s l = record { ready = r; end-is = e; fits = l; small = s }

@@ -17,7 +17,7 @@ use Rattle.byindex.proofs.RefusalsByIndexArrays.{unused-arrays, refusal-7, Pass
 use Rattle.byindex.proofs.RefusalsByIndexRecords.{after-offsets, layout-at, refusal-9-end, accepted, accepted-variants}
 use Rattle.blocks.specs.declared.Fields.{Fields}
 use Rattle.blocks.specs.Parts.{fixed}
-use Rattle.header.specs.Ready.{Ready, Held}
+use Rattle.header.specs.Ready.{FieldsPassed, Held}
 
 -- ---- the rules on single fields
 
@@ -47,7 +47,7 @@ pub record Ranges (f : Fields) : Type 0 where
   pub samples-least : 1 ≤ f .samples
   pub samples-most : f .samples ≤ 65536
 
-pub ranges : (bs : List ℕ) (f : Fields) → Ready bs f → Ranges f
+pub ranges : (bs : List ℕ) (f : Fields) → FieldsPassed bs f → Ranges f
 ranges bs f h = record {
   variants-least = from-1-to-positive most-variants (f .variants) (h .obeys .variants);
   variants-most = from-1-to-most most-variants (f .variants) (h .obeys .variants);

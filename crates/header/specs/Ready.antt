@@ -13,7 +13,7 @@ use Rattle.blocks.specs.declared.Blocks.{Blocks}
 use Rattle.blocks.specs.Parts.{fixed, blocks-of, BlocksSmall}
 
 -- 1 to 5 have passed, and these are the fields
-pub record Ready (bs : List ℕ) (f : Fields) : Type 0 where
+pub record FieldsPassed (bs : List ℕ) (f : Fields) : Type 0 where
   pub long : 12 ≤ length bs
   pub bytes : Bytes bs
   pub same : fixed-at bs ≡ fixed f
@@ -21,7 +21,7 @@ pub record Ready (bs : List ℕ) (f : Fields) : Type 0 where
 
 -- 6 has passed, and the header ends here
 pub record Held (bs : List ℕ) (f : Fields) (end : ℕ) : Type 0 where
-  pub ready : Ready bs f
+  pub ready : FieldsPassed bs f
   pub end-is : end ≡ header-end 65536 (fixed f)
   pub fits : end ≤ length bs
   pub small : end ≤ 134217728

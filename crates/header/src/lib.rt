@@ -10,7 +10,7 @@ ghost use Rattle.byindex.proofs.RefusalsByIndex.{fixed-at, after-fixed};
 ghost use Rattle.byindex.proofs.RefusalsByIndexArrays.{unused-arrays, Passed};
 ghost use Rattle.byindex.proofs.RefusalsByIndexRecords.{after-types};
 ghost use Rattle.blocks.specs.Parts.{fixed, fields-of};
-ghost use Rattle.header.specs.Ready.{Ready, Held, Placed};
+ghost use Rattle.header.specs.Ready.{FieldsPassed, Held, Placed};
 ghost use Rattle.header.specs.Finding.{earlier-of, found-then, UnusedFound};
 use blocks::Blocks;
 use blocks::Fields;
@@ -170,7 +170,7 @@ fn check_blocked(file: &[u8], f: Fields, end: usize) -> HeaderReply
 
 // 6, "file ends inside the header", then 7 to 9.
 fn check_arrays(file: &[u8], f: Fields) -> HeaderReply
-    requires { ⌜ Ready (now file) f ⌝ }
+    requires { ⌜ FieldsPassed (now file) f ⌝ }
     ensures { λ r. ⌜ header-left r ≡ summary (after-fixed 65536 (now (file .entry))) ⌝ }
 {
     let end = header_end(f);

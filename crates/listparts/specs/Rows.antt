@@ -27,8 +27,8 @@ row (base.Category category) categories = categories
 row (base.Anchor inverted) categories = exchange-all inverted categories
 row (base.Pair lower higher) categories = categories
 
-abbrev pub listed : Base → List ℕ → List ℕ → List Entry
-listed b anchor categories = differences 0 (base-row b anchor categories) (row b categories)
+abbrev pub listed-entries : Base → List ℕ → List ℕ → List Entry
+listed-entries b anchor categories = differences 0 (base-row b anchor categories) (row b categories)
 
 -- a base for every sample, at most so many samples, and categories only
 pub record RowsFit (b : Base) (anchor categories : List ℕ) : Type 0 where

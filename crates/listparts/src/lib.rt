@@ -8,7 +8,7 @@ ghost use Prim.Native.Nat.{_+_, _≤_, _<_};
 ghost use lib.ListN.{length, getD};
 ghost use Rattle.format.specs.Category.{exchange-if};
 ghost use Rattle.bytewriter.specs.Written.{Wrote};
-ghost use Rattle.listparts.specs.Rows.{row, base-row, listed, RowsFit};
+ghost use Rattle.listparts.specs.Rows.{row, base-row, listed-entries, RowsFit};
 ghost use Rattle.listparts.specs.Parts.{first-bytes, step-bytes, entry-bytes, after-entry, GroupFits, sample-bytes, after-sample, Passed, part-bytes};
 
 // 01, Categories and kinds: what a list is against. Kinds 4, 6 and 7: "the samples outside category 0, 2, 3"; kinds 2 and 3: "against the anchor",
@@ -208,8 +208,8 @@ pub fn put_part(
     at: usize,
 ) -> usize
     requires { ⌜ RowsFit base (now anchor) (now categories) ⌝ }
-    requires { ⌜ at + length (part-bytes part (length (now categories)) (listed base (now anchor) (now categories))) ≤ length (now output) ⌝ }
-    ensures { λ r. ⌜ Wrote (now (output .entry)) at (part-bytes part (length (now (categories .entry))) (listed base (now (anchor .entry)) (now (categories .entry)))) r (now (output .exit)) ⌝ }
+    requires { ⌜ at + length (part-bytes part (length (now categories)) (listed-entries base (now anchor) (now categories))) ≤ length (now output) ⌝ }
+    ensures { λ r. ⌜ Wrote (now (output .entry)) at (part-bytes part (length (now (categories .entry))) (listed-entries base (now (anchor .entry)) (now (categories .entry)))) r (now (output .exit)) ⌝ }
 {
     let mut group = Group {
         room: 0,

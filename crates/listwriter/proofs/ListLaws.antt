@@ -20,7 +20,7 @@ use Rattle.format.proofs.EntriesLaws.{heads-count, sizes-count, values-length}
 use Rattle.bytewriter.specs.Written.{Wrote}
 use Rattle.bytewriter.proofs.NumberLaws.{width-some}
 use Rattle.bytewriter.proofs.WrittenLaws.{wrote-both, wrote-room}
-use Rattle.listparts.specs.Rows.{base-row, row, listed, RowsFit}
+use Rattle.listparts.specs.Rows.{base-row, row, listed-entries, RowsFit}
 use Rattle.listparts.specs.declared.Base.{Base}
 use Rattle.listparts.specs.Parts.{part-from, part-bytes}
 use Rattle.listparts.specs.declared.Part.the-variants.{Heads, Sizes, Steps}
@@ -111,7 +111,7 @@ listed-few i (b ∷ base-list) (c ∷ row-list) = go (eqb c b) (differences (suc
     go true es h = omega arith
     go false es h = omega arith
 
-pub listed-most : (b : Base) (anchor categories : List ℕ) → RowsFit b anchor categories → length (listed b anchor categories) ≤ 65536
+pub listed-most : (b : Base) (anchor categories : List ℕ) → RowsFit b anchor categories → length (listed-entries b anchor categories) ≤ 65536
 listed-most b anchor categories f = omega (arith, listed-few 0 (base-row b anchor categories) (row b categories), f .each, f .few)
 
 steps-few : (samples room size before begun : ℕ) (es : List Entry) → length (part-from Steps samples room size before begun es) ≤ 5 * length es

@@ -14,7 +14,7 @@ ghost use Prim.Native.Nat.{_+_, _*_, _≤_, _<_};
 ghost use lib.ListN.{length};
 ghost use Rattle.format.specs.Difflist.{number-width, list-bytes};
 ghost use Rattle.bytewriter.specs.Written.{Wrote};
-ghost use Rattle.listparts.specs.Rows.{listed, RowsFit};
+ghost use Rattle.listparts.specs.Rows.{listed-entries, RowsFit};
 ghost use Rattle.listparts.specs.Parts.{entry-bytes, GroupFits};
 ghost use Rattle.listparts.specs.declared.Part.the-variants.{Steps};
 ghost use Rattle.listwriter.specs.Values.{PackingFits, value-bytes, Stored, values-bytes};
@@ -71,8 +71,8 @@ fn put_value(s: Sample, packing: Packing, output: &mut [u8]) -> Packing
 // 01, Difference lists: "ceil(L/4) bytes of 2-bit values".
 fn put_values(base: Base, categories: &[u8], anchor: &[u8], output: &mut [u8], at: usize) -> usize
     requires { ⌜ RowsFit base (now anchor) (now categories) ⌝ }
-    requires { ⌜ at + length (values-bytes (listed base (now anchor) (now categories))) ≤ length (now output) ⌝ }
-    ensures { λ r. ⌜ Wrote (now (output .entry)) at (values-bytes (listed base (now (anchor .entry)) (now (categories .entry)))) r (now (output .exit)) ⌝ }
+    requires { ⌜ at + length (values-bytes (listed-entries base (now anchor) (now categories))) ≤ length (now output) ⌝ }
+    ensures { λ r. ⌜ Wrote (now (output .entry)) at (values-bytes (listed-entries base (now (anchor .entry)) (now (categories .entry)))) r (now (output .exit)) ⌝ }
 {
     let mut packing = Packing {
         scale: 1,
@@ -129,7 +129,7 @@ fn count_sample(s: Sample, i: usize, counted: Counted) -> Counted
 // Counts the entries and the bytes of their steps.
 fn measure(base: Base, categories: &[u8], anchor: &[u8]) -> Counted
     requires { ⌜ RowsFit base (now anchor) (now categories) ⌝ }
-    ensures { λ r. ⌜ Measured (listed base (now (anchor .entry)) (now (categories .entry))) r ⌝ }
+    ensures { λ r. ⌜ Measured (listed-entries base (now (anchor .entry)) (now (categories .entry))) r ⌝ }
 {
     let mut counted = Counted {
         group: Group {
@@ -153,7 +153,7 @@ fn measure(base: Base, categories: &[u8], anchor: &[u8]) -> Counted
 // The count of the list and its size in bytes.
 pub fn list_size(base: Base, categories: &[u8], anchor: &[u8]) -> ListSize
     requires { ⌜ RowsFit base (now anchor) (now categories) ⌝ }
-    ensures { λ r. ⌜ SizeOf (length (now (categories .entry))) (listed base (now (anchor .entry)) (now (categories .entry))) r ⌝ }
+    ensures { λ r. ⌜ SizeOf (length (now (categories .entry))) (listed-entries base (now (anchor .entry)) (now (categories .entry))) r ⌝ }
 {
     let counted = measure(base, categories, anchor);
     let count = counted.count;
@@ -177,9 +177,9 @@ pub fn put_list(
     output: &mut [u8],
     at: usize,
 ) -> usize
-    requires { ⌜ RowsFit base (now anchor) (now categories) × (count ≡ length (listed base (now anchor) (now categories))) ⌝ }
-    requires { ⌜ at + length (list-bytes (number-width (length (now categories))) (listed base (now anchor) (now categories))) ≤ length (now output) ⌝ }
-    ensures { λ r. ⌜ Wrote (now (output .entry)) at (list-bytes (number-width (length (now (categories .entry)))) (listed base (now (anchor .entry)) (now (categories .entry)))) r (now (output .exit)) ⌝ }
+    requires { ⌜ RowsFit base (now anchor) (now categories) × (count ≡ length (listed-entries base (now anchor) (now categories))) ⌝ }
+    requires { ⌜ at + length (list-bytes (number-width (length (now categories))) (listed-entries base (now anchor) (now categories))) ≤ length (now output) ⌝ }
+    ensures { λ r. ⌜ Wrote (now (output .entry)) at (list-bytes (number-width (length (now (categories .entry)))) (listed-entries base (now (anchor .entry)) (now (categories .entry)))) r (now (output .exit)) ⌝ }
 {
     let heads = put_varint(output, at, count);
     let sizes = put_part(Part::Heads, base, categories, anchor, output, heads);

@@ -12,7 +12,7 @@ use Rattle.format.specs.Base.{Out, ok, refuse}
 use Rattle.format.specs.Packed.{Bits, one, two, limit, more, packed-size, read-packed}
 use Rattle.format.proofs.Rules.{split}
 use Rattle.packed.specs.Arrays.{number-in, unused, tabulate}
-use Rattle.packed.specs.Unpacked.{packed-step, array-at, out, unpacked-two, unpacked-one, of-pair}
+use Rattle.packed.specs.Unpacked.{packed-step, array-at, unpack-left, unpacked-two, unpacked-one, of-pair}
 use Rattle.packed.specs.declared.PackedStep.the-variants.{Next, Refused}
 use Rattle.packed.proofs.StoreLaws.{tabulate-length}
 use Rattle.packed.proofs.ReadsAt.{array-fits, array-unused, array-short, size-some}
@@ -87,11 +87,11 @@ module _ (bits : Bits) (l : List ℕ) (at n : ℕ) where
 -- ---- the two ways out of each unpacking
 
 module _ (l : List ℕ) (at n : ℕ) (row : List ℕ) where
-  pub two-refused : (number place : ℕ) → Refused number place ≡ array-at two n l at → out (Refused number place) row ≡ unpacked-two n l at row
+  pub two-refused : (number place : ℕ) → Refused number place ≡ array-at two n l at → unpack-left (Refused number place) row ≡ unpacked-two n l at row
   unfolding unpacked-two
   two-refused number place e = rw (was-refused two l at n number place e)
 
-  pub one-refused : (lower higher number place : ℕ) → Refused number place ≡ array-at one n l at → out (Refused number place) row ≡ unpacked-one lower higher n l at row
+  pub one-refused : (lower higher number place : ℕ) → Refused number place ≡ array-at one n l at → unpack-left (Refused number place) row ≡ unpacked-one lower higher n l at row
   unfolding unpacked-one
   one-refused lower higher number place e = rw (was-refused one l at n number place e)
 
@@ -99,12 +99,12 @@ module _ (l : List ℕ) (at n : ℕ) (row : List ℕ) where
     place : (bits : Bits) → Accepted bits l at n end → length l - length (drop end l) ≡ end
     place bits a = omega (arith, length-drop end l, a .ends, a .inside)
 
-    pub two-accepted : (new : List ℕ) → Accepted two l at n end → new ≡ tabulate (number-in two l at) n 0 ++ drop n row → out (Next end) new ≡ unpacked-two n l at row
+    pub two-accepted : (new : List ℕ) → Accepted two l at n end → new ≡ tabulate (number-in two l at) n 0 ++ drop n row → unpack-left (Next end) new ≡ unpacked-two n l at row
     unfolding unpacked-two
     two-accepted new a e = rw (a .reads, place two a, e)
 
     pub one-accepted : (lower higher : ℕ) (mid new : List ℕ) → Accepted one l at n end → mid ≡ tabulate (number-in one l at) n 0 ++ drop n row
-        → new ≡ map (of-pair lower higher) (take n mid) ++ drop n mid → out (Next end) new ≡ unpacked-one lower higher n l at row
+        → new ≡ map (of-pair lower higher) (take n mid) ++ drop n mid → unpack-left (Next end) new ≡ unpacked-one lower higher n l at row
     unfolding unpacked-one
     one-accepted lower higher mid new a e f =
         let t : take n mid ≡ tabulate (number-in one l at) n 0 = rw e (take-at (tabulate (number-in one l at) n 0) (drop n row) n (tabulate-length (number-in one l at) n 0)) in

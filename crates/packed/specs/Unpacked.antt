@@ -18,20 +18,20 @@ unfoldable pub array-at : Bits → ℕ → List ℕ → ℕ → PackedStep
 array-at bits n l at = packed-step (length l) (read-packed (length l) bits n (drop at l))
 
 -- a step, with what the row then holds
-pub data Outcome : Type 0 where
-  out : PackedStep → List ℕ → Outcome
+pub data UnpackLeft : Type 0 where
+  unpack-left : PackedStep → List ℕ → UnpackLeft
 
 -- an accepted array is put into the row's first n bytes, each number as f makes it; a refusal leaves the row as it was
-abbrev pub unpacked : ℕ → (List ℕ → List ℕ) → ℕ → List ℕ → Out (List ℕ) → Outcome
-unpacked end f n row (ok vs left) = out (Next (place-of end left)) (f vs ++ drop n row)
-unpacked end f n row (refuse number place) = out (Refused number place) row
+abbrev pub unpacked : ℕ → (List ℕ → List ℕ) → ℕ → List ℕ → Out (List ℕ) → UnpackLeft
+unpacked end f n row (ok vs left) = unpack-left (Next (place-of end left)) (f vs ++ drop n row)
+unpacked end f n row (refuse number place) = unpack-left (Refused number place) row
 
-unfoldable pub unpacked-two : ℕ → List ℕ → ℕ → List ℕ → Outcome
+unfoldable pub unpacked-two : ℕ → List ℕ → ℕ → List ℕ → UnpackLeft
 unpacked-two n l at row = unpacked (length l) (λ vs. vs) n row (read-packed (length l) two n (drop at l))
 
 -- the category of a pair that a bit stands for
 abbrev pub of-pair : ℕ → ℕ → ℕ → ℕ
 of-pair lower higher bit = pick (bit-set bit) higher lower
 
-unfoldable pub unpacked-one : ℕ → ℕ → ℕ → List ℕ → ℕ → List ℕ → Outcome
+unfoldable pub unpacked-one : ℕ → ℕ → ℕ → List ℕ → ℕ → List ℕ → UnpackLeft
 unpacked-one lower higher n l at row = unpacked (length l) (map (of-pair lower higher)) n row (read-packed (length l) one n (drop at l))

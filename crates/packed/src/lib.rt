@@ -6,7 +6,7 @@ ghost use mathlib.Core.List.{_++_, map};
 ghost use lib.ListN.{length, set, take, drop};
 ghost use Rattle.format.specs.Packed.{one, two, more, packed-size};
 ghost use Rattle.packed.specs.Arrays.{bits-of, number-in, unused, tabulate, store, Spread};
-ghost use Rattle.packed.specs.Unpacked.{array-at, out, unpacked-two, unpacked-one, of-pair};
+ghost use Rattle.packed.specs.Unpacked.{array-at, unpack-left, unpacked-two, unpacked-one, of-pair};
 
 // How many bits a number of an array has.
 pub enum Width {
@@ -182,7 +182,7 @@ fn store_numbers(s: &[u8], at: usize, n: usize, width: Width, row: &mut [u8])
 // 01, Categories: "Packed: two bits per sample, lowest sample in the lowest bits." The array's categories into the row's first n bytes.
 pub fn unpack_categories(s: &[u8], at: usize, n: usize, row: &mut [u8]) -> PackedStep
     requires { ⌜ (at ≤ length (now s)) × (n ≤ 65536) × (n ≤ length (now row)) ⌝ }
-    ensures { λ r. ⌜ out r (now (row .exit)) ≡ unpacked-two n (now (s .entry)) at (now (row .entry)) ⌝ }
+    ensures { λ r. ⌜ unpack-left r (now (row .exit)) ≡ unpacked-two n (now (s .entry)) at (now (row .entry)) ⌝ }
 {
     let checked = check(s, at, n, Width::Two);
     match checked {
@@ -221,7 +221,7 @@ pub fn unpack_pair(
     row: &mut [u8],
 ) -> PackedStep
     requires { ⌜ (at ≤ length (now s)) × (n ≤ 65536) × (n ≤ length (now row)) ⌝ }
-    ensures { λ r. ⌜ out r (now (row .exit)) ≡ unpacked-one lower higher n (now (s .entry)) at (now (row .entry)) ⌝ }
+    ensures { λ r. ⌜ unpack-left r (now (row .exit)) ≡ unpacked-one lower higher n (now (s .entry)) at (now (row .entry)) ⌝ }
 {
     let checked = check(s, at, n, Width::One);
     match checked {

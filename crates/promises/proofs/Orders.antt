@@ -44,8 +44,8 @@ write categories kind code lent room =
     write-call categories kind code lent (replicate room 7) .refusal ∷ write-call categories kind code lent (replicate room 7) .place ∷ []
 
 -- a list of a record that ends at `end`, of N samples, none of them with value 0
-abbrev listed : ℕ → ℕ → List ℕ → List ℕ
-listed N end bs =
+abbrev list-reply : ℕ → ℕ → List ℕ → List ℕ
+list-reply N end bs =
     refusal-of (read-list (record { samples = N; may = λ (sample value : ℕ). not (eqb value 0) }) (number-width N) end bs)
     ∷ refused-at (read-list (record { samples = N; may = λ (sample value : ℕ). not (eqb value 0) }) (number-width N) end bs) ∷ []
 
@@ -89,17 +89,17 @@ orders =
     ∷ (write (0 ∷ 1 ∷ []) 2 0 (9 ∷ 9 ∷ []) 0 gives (20 ∷ 0 ∷ []))
     ∷ (write (0 ∷ 1 ∷ []) 0 0 [] 0 gives (10 ∷ 0 ∷ []))
     -- a list: its count (12, 15, 16); the parts fit (12); unused value bits (18); a number (16) before its value (17)
-    ∷ (listed 9 40 (0x80 ∷ 0x80 ∷ 0x80 ∷ 0x80 ∷ []) gives (12 ∷ 40 ∷ []))
-    ∷ (listed 9 40 (0x80 ∷ 0x80 ∷ 0x80 ∷ 0x80 ∷ 0x80 ∷ []) gives (15 ∷ 35 ∷ []))
-    ∷ (listed 9 40 (10 ∷ []) gives (16 ∷ 39 ∷ []))
-    ∷ (listed 9 40 (1 ∷ 9 ∷ []) gives (12 ∷ 40 ∷ []))
-    ∷ (listed 9 40 (1 ∷ 9 ∷ 0xf0 ∷ []) gives (18 ∷ 39 ∷ []))
-    ∷ (listed 9 40 (1 ∷ 9 ∷ 0x00 ∷ []) gives (16 ∷ 38 ∷ []))
-    ∷ (listed 9 40 (1 ∷ 8 ∷ 0x00 ∷ []) gives (17 ∷ 39 ∷ []))
+    ∷ (list-reply 9 40 (0x80 ∷ 0x80 ∷ 0x80 ∷ 0x80 ∷ []) gives (12 ∷ 40 ∷ []))
+    ∷ (list-reply 9 40 (0x80 ∷ 0x80 ∷ 0x80 ∷ 0x80 ∷ 0x80 ∷ []) gives (15 ∷ 35 ∷ []))
+    ∷ (list-reply 9 40 (10 ∷ []) gives (16 ∷ 39 ∷ []))
+    ∷ (list-reply 9 40 (1 ∷ 9 ∷ []) gives (12 ∷ 40 ∷ []))
+    ∷ (list-reply 9 40 (1 ∷ 9 ∷ 0xf0 ∷ []) gives (18 ∷ 39 ∷ []))
+    ∷ (list-reply 9 40 (1 ∷ 9 ∷ 0x00 ∷ []) gives (16 ∷ 38 ∷ []))
+    ∷ (list-reply 9 40 (1 ∷ 8 ∷ 0x00 ∷ []) gives (17 ∷ 39 ∷ []))
     -- an entry's varint (12, 15) before its number (16)
-    ∷ (listed 9 40 (2 ∷ 8 ∷ 0x05 ∷ []) gives (12 ∷ 40 ∷ []))
-    ∷ (listed 9 40 (2 ∷ 8 ∷ 0x05 ∷ 0x80 ∷ 0x00 ∷ []) gives (15 ∷ 38 ∷ []))
-    ∷ (listed 9 40 (2 ∷ 8 ∷ 0x01 ∷ 0x00 ∷ []) gives (16 ∷ 39 ∷ []))
+    ∷ (list-reply 9 40 (2 ∷ 8 ∷ 0x05 ∷ []) gives (12 ∷ 40 ∷ []))
+    ∷ (list-reply 9 40 (2 ∷ 8 ∷ 0x05 ∷ 0x80 ∷ 0x00 ∷ []) gives (15 ∷ 38 ∷ []))
+    ∷ (list-reply 9 40 (2 ∷ 8 ∷ 0x01 ∷ 0x00 ∷ []) gives (16 ∷ 39 ∷ []))
     ∷ []
 
 pub orders-hold : map (λ (e : Example). e .what) orders ≡ map (λ (e : Example). e .is) orders

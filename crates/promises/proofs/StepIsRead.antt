@@ -21,23 +21,21 @@ use Rattle.format.specs.Layout.{most-variants, Layout, fixed-of, joined, layout
 use Rattle.format.specs.Header.{read-layout}
 use Rattle.format.specs.File.{type-of, read-over, read-variant}
 use Rattle.format.specs.Reply.{given}
-use Rattle.format.proofs.Rules.{Holds, never-both, by-test}
+use Rattle.format.proofs.Rules.{by-test}
 use Rattle.format.proofs.Refuses.{Refuses, Within}
-use Rattle.format.proofs.BodyLaws.{IsBody, body-as-written}
-use Rattle.format.proofs.RowLaws.{body-row}
 use Rattle.format.proofs.OffsetsLaws.{from-1-to-most}
 use Rattle.format.proofs.AnchorLaws.{types-allowed-at, anchor-after-leaning, anchor-after-standing}
 use Rattle.byindex.proofs.StartLaws.{body-length-at, record-end}
 use Rattle.format.proofs.FileLaws.{one-type-each, bodies-are-bytes}
 use Rattle.byindex.proofs.InOrderLaws.{stands-alike}
-use Rattle.byindex.proofs.RecordTurns.{record-over}
+use Rattle.byindex.proofs.RecordTurns.{record-over, row-count}
 use Rattle.format.proofs.CallRefusals.{variant-refusals}
 use Rattle.blocks.specs.Parts.{fields-of}
 use Rattle.extents.specs.Extent.{kind-at, size-at}
 use Rattle.extents.proofs.FoundLaws.{kinds-found, sizes-found}
 use Rattle.places.specs.declared.Place.{Place}
 use Rattle.places.specs.Located.{place-in}
-use Rattle.reader.specs.Rows.{row-left as row-in}
+use Rattle.reader.specs.Rows.{row-replied}
 use Rattle.extents.proofs.AcceptedLaws.{obeys, written, samples-most}
 use Rattle.reader.proofs.Cut.{body-is-bytes, inside, recorded-is}
 use Rattle.reader.proofs.OneLaws.{read-too}
@@ -136,7 +134,7 @@ module _ (file : List ℕ) (y : Bytes file) (l : Layout) (a : read-layout 65536 
         ∙ ap (λ (p : Place). ok p []) place-is
 
     -- and read
-    over-row : (row : List ℕ) → read-at st file at row ≡ row-in N row (read-over 65536 l (take N row) here)
+    over-row : (row : List ℕ) → read-at st file at row ≡ row-replied N row (read-over 65536 l (take N row) here)
     unfolding read-over
     over-row row =
         recorded-is file y l a here b (at .start) (at .end) (at .kind) refl false row
@@ -172,13 +170,8 @@ module _ (file : List ℕ) (y : Bytes file) (l : Layout) (a : read-layout 65536 
             go : (m : Out Body) → record-over 65536 l v (take N work) ≡ m → map-out (body-categories N (take N work)) m ≡ ok row left → length row ≡ N
             go (refuse number place) q e = absurd (let z : _≡_ {A = ℕ} 0 1 = cc in omega arith)
             go (ok body rest) q e =
-                let i : IsBody N (take N work) (type-of l here) (getD (l .bodies) v []) body rest
-                = subst (Holds (IsBody N (take N work) (type-of l here) (getD (l .bodies) v []))) q
-                (body-as-written (record-start 65536 l (next-variant here)) N (take N work) (type-of l here) (getD (l .bodies) v []) (body-is-bytes file y l a v)) in
-                let n : length (body-categories N (take N work) body) ≡ N
-                = body-row N (take N work) body (i .fits) (λ t. never-both t (ap leans (i .kind) ∙ s)) .0 in
                 let r : row ≡ body-categories N (take N work) body = cc in
-                ap length r ∙ n
+                ap length r ∙ row-count 65536 l (lit< tt) (obeys file y l a) v (take N work) body rest (body-is-bytes file y l a v) q s
 
         -- the next one that leans, leans on it
         lent : suc v < length (l .bodies) → leans (type-of l (file-variant (suc v))) ≡ true
@@ -186,7 +179,7 @@ module _ (file : List ℕ) (y : Bytes file) (l : Layout) (a : read-layout 65536 
         lent m u = ap (read-over 65536 l []) (anchor-after-standing 65536 (l .types) (lit< tt) (obeys file y l a .types) v (more-types m) s u) ∙ alike
 
         alone-step : (m : Out (List ℕ)) → read-over 65536 l (take N work) here ≡ m → Refuses (Within 12 18) m
-            → Stepped l work₀ v output m (alone st (at .end) output (row-in N work m))
+            → Stepped l work₀ v output m (alone st (at .end) output (row-replied N work m))
         alone-step (ok row left) e k =
             let n : length row ≡ N = count row left e in
             let front : take N (row ++ drop N work) ≡ row = take-at row (drop N work) N n in
@@ -252,11 +245,11 @@ module _ (file : List ℕ) (y : Bytes file) (l : Layout) (a : read-layout 65536 
         abbrev copied : List ℕ
         copied = take N work ++ drop N output
 
-        over-copy : read-at st file at copied ≡ row-in N copied (read-over 65536 l (take N work) here)
+        over-copy : read-at st file at copied ≡ row-replied N copied (read-over 65536 l (take N work) here)
         over-copy = over-row copied
-            ∙ ap (λ (row : List ℕ). row-in N copied (read-over 65536 l row here)) (take-at (take N work) (drop N output) N (length-take-le N work w))
+            ∙ ap (λ (row : List ℕ). row-replied N copied (read-over 65536 l row here)) (take-at (take N work) (drop N output) N (length-take-le N work w))
 
-        leaning-step : (m : Out (List ℕ)) → Stepped l work₀ v output m (leaning st (at .end) output work (row-in N copied m))
+        leaning-step : (m : Out (List ℕ)) → Stepped l work₀ v output m (leaning st (at .end) output work (row-replied N copied m))
         leaning-step (ok row left) = record {
           reply-is = refl;
           output-is = ap (λ (z : List ℕ). row ++ z) (drop-at (take N work) (drop N output) N (length-take-le N work w));

@@ -23,7 +23,7 @@ use Rattle.places.specs.Located.{HasLayout}
 use Rattle.places.proofs.FromReply.{reply-accepted, reply-refused}
 use Rattle.record.specs.declared.RecordReply.{RecordReply}
 use Rattle.record.specs.declared.RecordReply.the-variants as of
-use Rattle.record.specs.Recorded.{done}
+use Rattle.record.specs.Recorded.{record-left}
 use Rattle.reader.specs.Rows.{HasRow, all-checked}
 use Rattle.extents.proofs.AcceptedLaws.{obeys, written}
 use Rattle.reader.proofs.Replies.{row-of, reply-of, WasRead, was-accepted, was-refused}
@@ -54,8 +54,8 @@ module _ (bs work : List ℕ) (y : Bytes bs) (r : HeaderReply) (e : header-left 
       pub has-row : HasRow bs work
       has-row = record { layout = has .layout; accepted = has .accepted; room = omega (arith, has .samples-are) }
 
-      module _ (got : RecordReply) (work₁ : List ℕ) (d : (l : Layout) → read-layout 65536 bs ≡ ok l [] → done got work₁ ≡ all-checked l work) where
-        found : done got work₁ ≡ all-checked (has .layout) work
+      module _ (got : RecordReply) (work₁ : List ℕ) (d : (l : Layout) → read-layout 65536 bs ≡ ok l [] → record-left got work₁ ≡ all-checked l work) where
+        found : record-left got work₁ ≡ all-checked (has .layout) work
         found = d (has .layout) (has .accepted)
 
         -- 12 to 18

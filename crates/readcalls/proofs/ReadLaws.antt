@@ -26,8 +26,8 @@ use Rattle.places.specs.Located.{HasLayout}
 use Rattle.places.proofs.FromReply.{reply-accepted, reply-refused}
 use Rattle.record.specs.declared.RecordReply.{RecordReply}
 use Rattle.record.specs.declared.RecordReply.the-variants as of
-use Rattle.record.specs.Recorded.{done}
-use Rattle.reader.specs.Rows.{HasVariantRow, row-left, row-read}
+use Rattle.record.specs.Recorded.{record-left}
+use Rattle.reader.specs.Rows.{HasVariantRow, row-replied, row-read}
 use Rattle.extents.proofs.AcceptedLaws.{obeys, written}
 use Rattle.reader.proofs.Replies.{row-of, WasRead, row-accepted, row-refused}
 use Rattle.reader.proofs.WorkLaws.{header-keeps, record-clears}
@@ -99,8 +99,8 @@ module _ (bs : List ℕ) (v : FileVariant) (work : List ℕ) (y : Bytes bs) (r :
             simp (has .accepted, holds, lt-ltb (v .0) (length (has .layout .bodies)) below, le-ltb sample (has .layout .samples) (omega (arith, has .samples-are)))
 
         module _ (got : RecordReply) (work₁ : List ℕ) (same : length work₁ ≡ length work)
-            (d : (l : Layout) → read-layout 65536 bs ≡ ok l [] → done got work₁ ≡ row-read l v work) where
-          found : done got work₁ ≡ row-read (has .layout) v work
+            (d : (l : Layout) → read-layout 65536 bs ≡ ok l [] → record-left got work₁ ≡ row-read l v work) where
+          found : record-left got work₁ ≡ row-read (has .layout) v work
           found = d (has .layout) (has .accepted)
 
           -- 12 to 18
@@ -118,7 +118,7 @@ module _ (bs : List ℕ) (v : FileVariant) (work : List ℕ) (y : Bytes bs) (r :
               record {
                 why = n;
                 clears = record-clears number (subst (Refuses (Within 12 18)) n all);
-                left = ap row-of (found ∙ ap (row-left (l .samples) work) n);
+                left = ap row-of (found ∙ ap (row-replied (l .samples) work) n);
               }
 
           pub read-refused : (output : List ℕ) → samples ≤ length output → (number place : ℕ) → got ≡ of.Refused number place
@@ -157,7 +157,7 @@ module _ (bs : List ℕ) (v : FileVariant) (work : List ℕ) (y : Bytes bs) (r :
             was = row-accepted (has .layout .samples) work work₁ got (read-variant 65536 (has .layout) v) found s
 
             work-is : work₁ ≡ was .value ++ drop samples work
-            work-is = ap row-of (found ∙ ap (row-left (has .layout .samples) work) (was .is)) ∙ ap (λ (n : ℕ). was .value ++ drop n work) (has .samples-are)
+            work-is = ap row-of (found ∙ ap (row-replied (has .layout .samples) work) (was .is)) ∙ ap (λ (n : ℕ). was .value ++ drop n work) (has .samples-are)
 
             count : length (was .value) ≡ samples
             count = omega (arith, same, ap length work-is, length-append (was .value) (drop samples work), length-drop samples work)

@@ -30,7 +30,7 @@ use Rattle.places.specs.declared.Place.{Place}
 use Rattle.places.specs.Located.{place-in}
 use Rattle.record.specs.declared.RecordReply.{RecordReply}
 use Rattle.record.specs.declared.RecordReply.the-variants.{Accepted, Refused}
-use Rattle.record.specs.Recorded.{Outcome, done, replied, recorded}
+use Rattle.record.specs.Recorded.{RecordLeft, record-left, record-replied, recorded}
 use Rattle.reader.specs.Rows.{record-reply, all-checked}
 use Rattle.reader.proofs.Replies.{row-of, reply-of, refusal}
 use Rattle.reader.proofs.Cut.{body-is-bytes, recorded-is, its-place}
@@ -75,13 +75,13 @@ module _ (bs : List ℕ) (y : Bytes bs) (l : Layout) (a : read-layout 65536 bs �
       }
 
   -- nothing is left
-  pub ends : (row last : List ℕ) (v start : ℕ) → f .variants ≤ v → Walk l row₀ row v start → last ≡ emptied (f .samples) row → done Accepted last ≡ all-checked l row₀
+  pub ends : (row last : List ℕ) (v start : ℕ) → f .variants ≤ v → Walk l row₀ row v start → last ≡ emptied (f .samples) row → record-left Accepted last ≡ all-checked l row₀
   ends row last v start m w g =
       let all : v ≡ length (l .bodies) = omega (arith, w .reached, count-is bs y l a f e) in
       let passed : outcome (read-all 65536 l) ≡ ok tt []
       = sym (w .left-is) ∙ ap (λ (z : ℕ). left-to-check 65536 l z (take (l .samples) row)) all ∙ none-left 65536 l (take (l .samples) row) (obeys bs y l a) in
-      ap (done Accepted) (g ∙ emptied-is row)
-      ∙ ap₂ (λ (r : RecordReply) (rest : List ℕ). done r (replicate (l .samples) 0 ++ rest))
+      ap (record-left Accepted) (g ∙ emptied-is row)
+      ∙ ap₂ (λ (r : RecordReply) (rest : List ℕ). record-left r (replicate (l .samples) 0 ++ rest))
       (sym (sym (reply-outcome (read-all 65536 l)) ∙ ap record-reply passed)) (w .rest-is)
 
   module _ (row : List ℕ) (v start : ℕ) (w : Walk l row₀ row v start) (m : v < f .variants) (kind size : ℕ)
@@ -92,12 +92,12 @@ module _ (bs : List ℕ) (y : Bytes bs) (l : Layout) (a : read-layout 65536 bs �
     here : _≡_ {A = Place} (record { start = start; end = start + size; kind = kind }) (place-in l (file-variant v))
     here = its-place bs y l a f e v m kind size k z start (w .start-is)
 
-    module _ (row₁ : List ℕ) (r : RecordReply) (d : done r row₁ ≡ recorded true (f .samples) kind (take (start + size) bs) start row) where
-      found : done r row₁ ≡ replied (leans (type-of l (file-variant v))) (l .samples) row (record-over 65536 l v (take (l .samples) row))
+    module _ (row₁ : List ℕ) (r : RecordReply) (d : record-left r row₁ ≡ recorded true (f .samples) kind (take (start + size) bs) start row) where
+      found : record-left r row₁ ≡ record-replied (leans (type-of l (file-variant v))) (l .samples) row (record-over 65536 l v (take (l .samples) row))
       found =
           d ∙ ap (λ (n : ℕ). recorded true n kind (take (start + size) bs) start row) (samples-are bs y l a f e)
           ∙ recorded-is bs y l a (file-variant v) b start (start + size) kind here true row
-          ∙ ap (λ (t : Bool). replied t (l .samples) row (record-over 65536 l v (take (l .samples) row))) (kept-too (leans (type-of l (file-variant v))))
+          ∙ ap (λ (t : Bool). record-replied t (l .samples) row (record-over 65536 l v (take (l .samples) row))) (kept-too (leans (type-of l (file-variant v))))
 
       turn : left-to-check 65536 l v (take (l .samples) row) ≡ then-check 65536 l v (take (l .samples) row) (record-over 65536 l v (take (l .samples) row))
       turn = turn-check 65536 l v (take (l .samples) row) (obeys bs y l a) b
@@ -109,10 +109,10 @@ module _ (bs : List ℕ) (y : Bytes bs) (l : Layout) (a : read-layout 65536 bs �
         where
           go : (m : Out Body) → record-over 65536 l v (take (l .samples) row) ≡ m → Walk l row₀ row₁ (suc v) (start + size)
           go (refuse number place) n =
-              let t = found ∙ ap (replied (leans (type-of l (file-variant v))) (l .samples) row) n in
-              absurd (omega (arith, ap (λ (z : Outcome). refusal (reply-of z)) t, ap refusal q))
+              let t = found ∙ ap (record-replied (leans (type-of l (file-variant v))) (l .samples) row) n in
+              absurd (omega (arith, ap (λ (z : RecordLeft). refusal (reply-of z)) t, ap refusal q))
           go (ok body left) n =
-              let t = found ∙ ap (replied (leans (type-of l (file-variant v))) (l .samples) row) n in
+              let t = found ∙ ap (record-replied (leans (type-of l (file-variant v))) (l .samples) row) n in
               let carried = row-carried 65536 l (lit< tt) (obeys bs y l a) v row body left (body-is-bytes bs y l a v) n in
               record {
                 reached = omega (arith, b);
@@ -125,17 +125,17 @@ module _ (bs : List ℕ) (y : Bytes bs) (l : Layout) (a : read-layout 65536 bs �
 
       -- the row is emptied then
       pub stops : (number place : ℕ) (last : List ℕ) → r ≡ Refused number place → last ≡ emptied (f .samples) row₁
-          → done (Refused number place) last ≡ all-checked l row₀
+          → record-left (Refused number place) last ≡ all-checked l row₀
       stops number place last q g = go (record-over 65536 l v (take (l .samples) row)) refl
         where
-          go : (m : Out Body) → record-over 65536 l v (take (l .samples) row) ≡ m → done (Refused number place) last ≡ all-checked l row₀
+          go : (m : Out Body) → record-over 65536 l v (take (l .samples) row) ≡ m → record-left (Refused number place) last ≡ all-checked l row₀
           go (ok body left) n =
-              let t = found ∙ ap (replied (leans (type-of l (file-variant v))) (l .samples) row) n in
-              absurd (omega (arith, ap (λ (z : Outcome). refusal (reply-of z)) t, ap refusal q))
+              let t = found ∙ ap (record-replied (leans (type-of l (file-variant v))) (l .samples) row) n in
+              absurd (omega (arith, ap (λ (z : RecordLeft). refusal (reply-of z)) t, ap refusal q))
           go (refuse other there) n =
-              let t = found ∙ ap (replied (leans (type-of l (file-variant v))) (l .samples) row) n in
+              let t = found ∙ ap (record-replied (leans (type-of l (file-variant v))) (l .samples) row) n in
               let all : outcome (read-all 65536 l) ≡ refuse other there
               = sym (w .left-is) ∙ turn ∙ ap (then-check 65536 l v (take (l .samples) row)) n in
-              ap₂ done (sym q ∙ ap reply-of t ∙ sym (sym (reply-outcome (read-all 65536 l)) ∙ ap record-reply all))
+              ap₂ record-left (sym q ∙ ap reply-of t ∙ sym (sym (reply-outcome (read-all 65536 l)) ∙ ap record-reply all))
               (g ∙ emptied-is row₁ ∙ ap (λ (rest : List ℕ). replicate (l .samples) 0 ++ rest)
               (ap (λ (z : List ℕ). drop (l .samples) z) (ap row-of t) ∙ rest-after (leans (type-of l (file-variant v))) (l .samples) row ∙ w .rest-is))

@@ -5,7 +5,7 @@ ghost use Rattle.format.specs.declared.Reply.the-variants as reply;
 ghost use Rattle.format.specs.Base.{ok};
 ghost use Rattle.format.specs.Layout.{Layout};
 ghost use Rattle.format.specs.Header.{read-layout};
-ghost use Rattle.record.specs.Recorded.{done};
+ghost use Rattle.record.specs.Recorded.{record-left};
 ghost use Rattle.reader.specs.Rows.{HasRow, HasVariantRow, all-checked, row-read};
 use blocks::fields_at;
 use blocks::header_end;
@@ -24,7 +24,7 @@ use types::type_leans;
 // the anchor of the next one that leans.
 pub fn check_records(file: &[u8], row: &mut [u8]) -> RecordReply
     requires { ⌜ HasRow (now file) (now row) ⌝ }
-    ensures { λ r. ⌜ ((l : Layout) → read-layout 65536 (now (file .entry)) ≡ ok l [] → done r (now (row .exit)) ≡ all-checked l (now (row .entry))) ⌝ }
+    ensures { λ r. ⌜ ((l : Layout) → read-layout 65536 (now (file .entry)) ≡ ok l [] → record-left r (now (row .exit)) ≡ all-checked l (now (row .entry))) ⌝ }
 {
     let f = fields_at(file);
     let m = f.variants;
@@ -53,7 +53,7 @@ pub fn check_records(file: &[u8], row: &mut [u8]) -> RecordReply
 // 01: "a read or lookup checks only its variant's, and an anchor is checked before the record that leans on it". n is the file's N.
 pub fn read_row(file: &[u8], n: usize, v: FileVariant, row: &mut [u8]) -> RecordReply
     requires { ⌜ HasVariantRow (now file) n v (now row) ⌝ }
-    ensures { λ r. ⌜ ((l : Layout) → read-layout 65536 (now (file .entry)) ≡ ok l [] → done r (now (row .exit)) ≡ row-read l v (now (row .entry))) ⌝ }
+    ensures { λ r. ⌜ ((l : Layout) → read-layout 65536 (now (file .entry)) ≡ ok l [] → record-left r (now (row .exit)) ≡ row-read l v (now (row .entry))) ⌝ }
 {
     let p = place_of(file, v);
     let end = p.end;

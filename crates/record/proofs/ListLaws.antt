@@ -12,12 +12,12 @@ use Rattle.format.specs.Packed.{one, read-packed}
 use Rattle.format.specs.Difflist.{Entry, number-width, read-list}
 use Rattle.format.specs.Track.{against-category, sparse, rule, off-anchor, off-category, apply, read-listed, read-kind, track-categories}
 use Rattle.packed.specs.Arrays.{number-in, tabulate}
-use Rattle.packed.specs.Unpacked.{packed-step, array-at, unpacked, unpacked-one, of-pair, out as unpack}
+use Rattle.packed.specs.Unpacked.{packed-step, array-at, unpacked, unpacked-one, of-pair, unpack-left}
 use Rattle.packed.specs.declared.PackedStep.the-variants.{Next, Refused as NotPacked}
 use Rattle.packed.proofs.StoreLaws.{tabulate-length}
 use Rattle.packed.proofs.CheckLaws.{Accepted, was-accepted}
-use Rattle.difflist.specs.Entries.{Outcome, out}
-use Rattle.difflist.specs.Listed.{may-hold, replied, listed}
+use Rattle.difflist.specs.Entries.{ListLeft, list-left}
+use Rattle.difflist.specs.Listed.{may-hold, list-replied, listed}
 use Rattle.difflist.specs.declared.ListRule.{ListRule}
 use Rattle.difflist.specs.declared.ListRule.the-variants.{OffPair, OffRow}
 use Rattle.difflist.specs.declared.ListStep.the-variants.{Refused}
@@ -27,12 +27,12 @@ use Rattle.record.proofs.RowLaws.{rest-of, zero-rest}
 
 -- `first` is what the list is against
 module _ (l : List ℕ) (at n : ℕ) (held : ListRule) (row mid first : List ℕ) (t : take n mid ≡ first) (d : drop n mid ≡ drop n row) where
-  list-stored : (o : Outcome) → o ≡ listed true held n l at mid
+  list-stored : (o : ListLeft) → o ≡ listed true held n l at mid
       → wiped false n o ≡ stored false (length l) n row (map-out (λ es. apply es first) (read-list (rule n (may-hold held first)) (number-width n) (length l) (drop at l)))
   unfolding listed
   list-stored o e = rw (e, t) (through (read-list (rule n (may-hold held first)) (number-width n) (length l) (drop at l)))
     where
-      through : (m : Out (List Entry)) → wiped false n (replied true (length l) n mid m) ≡ stored false (length l) n row (map-out (λ es. apply es first) m)
+      through : (m : Out (List Entry)) → wiped false n (list-replied true (length l) n mid m) ≡ stored false (length l) n row (map-out (λ es. apply es first) m)
       through (ok es left) = rw (t, d)
       through (refuse number place) = rw (zero-rest n mid, d)
 
@@ -47,7 +47,7 @@ module _ (l : List ℕ) (start n category : ℕ) (row mid : List ℕ) (filled : 
   off-filled : (sample value : ℕ) → sample < n → off-anchor (replicate n category) sample value ≡ off-category category sample value
   off-filled sample value h = rw (getD-replicate n sample category 1 h)
 
-  pub sparse-stored : (o : Outcome) → o ≡ listed true OffRow n l start mid
+  pub sparse-stored : (o : ListLeft) → o ≡ listed true OffRow n l start mid
       → wiped false n o ≡ stored false (length l) n row (kind-categories n row (against-category category) l start)
   unfolding kind-categories read-kind read-listed
   sparse-stored o e =
@@ -62,23 +62,23 @@ module _ (l : List ℕ) (start n category : ℕ) (row mid : List ℕ) (filled : 
 -- ---- kind 1, after its pair code
 
 module _ (l : List ℕ) (at n lower higher : ℕ) (row mid : List ℕ) where
-  pub bits-refused : (number place : ℕ) → unpack (NotPacked number place) mid ≡ unpacked-one lower higher n l at row
-      → out (Refused number place) (replicate n 0 ++ drop n mid) ≡ stored false (length l) n row (pair-categories lower higher n l at)
+  pub bits-refused : (number place : ℕ) → unpack-left (NotPacked number place) mid ≡ unpacked-one lower higher n l at row
+      → list-left (Refused number place) (replicate n 0 ++ drop n mid) ≡ stored false (length l) n row (pair-categories lower higher n l at)
   unfolding unpacked-one pair-categories
   bits-refused number place e = through (read-packed (length l) one n (drop at l)) e
     where
-      through : (m : Out (List ℕ)) → unpack (NotPacked number place) mid ≡ unpacked (length l) (map (of-pair lower higher)) n row m
-          → out (Refused number place) (replicate n 0 ++ drop n mid) ≡ stored false (length l) n row (bind m (λ bits left.
+      through : (m : Out (List ℕ)) → unpack-left (NotPacked number place) mid ≡ unpacked (length l) (map (of-pair lower higher)) n row m
+          → list-left (Refused number place) (replicate n 0 ++ drop n mid) ≡ stored false (length l) n row (bind m (λ bits left.
           map-out (λ es. apply es (map (of-pair lower higher) bits)) (read-list (rule n (off-both lower higher)) (number-width n) (length l) left)))
       through (ok vs left) q = absurd (let z : _≡_ {A = ℕ} 0 1 = cc in omega arith)
       through (refuse number′ place′) q = cc
 
-  module _ (next : ℕ) (told : unpack (Next next) mid ≡ unpacked-one lower higher n l at row) (y : (i : ℕ) → getD l i 0 < 256) (h : at ≤ length l) where
+  module _ (next : ℕ) (told : unpack-left (Next next) mid ≡ unpacked-one lower higher n l at row) (y : (i : ℕ) → getD l i 0 < 256) (h : at ≤ length l) where
     bits-step : Next next ≡ array-at one n l at
     unfolding unpacked-one array-at
     bits-step = through (read-packed (length l) one n (drop at l)) told
       where
-        through : (m : Out (List ℕ)) → unpack (Next next) mid ≡ unpacked (length l) (map (of-pair lower higher)) n row m → Next next ≡ packed-step (length l) m
+        through : (m : Out (List ℕ)) → unpack-left (Next next) mid ≡ unpacked (length l) (map (of-pair lower higher)) n row m → Next next ≡ packed-step (length l) m
         through (ok vs left) q = cc
         through (refuse number place) q = absurd (let z : _≡_ {A = ℕ} 0 1 = cc in omega arith)
 
@@ -92,7 +92,7 @@ module _ (l : List ℕ) (at n lower higher : ℕ) (row mid : List ℕ) where
     unfolding unpacked-one
     bits-row = let e = rw (bits-accepted .reads) at told in cc
 
-    pub bits-listed : (o : Outcome) → o ≡ listed true (OffPair lower higher) n l next mid → wiped false n o ≡ stored false (length l) n row (pair-categories lower higher n l at)
+    pub bits-listed : (o : ListLeft) → o ≡ listed true (OffPair lower higher) n l next mid → wiped false n o ≡ stored false (length l) n row (pair-categories lower higher n l at)
     unfolding pair-categories
     bits-listed o e =
         let k : length (map (of-pair lower higher) bits) ≡ n = length-map bits (of-pair lower higher) ∙ tabulate-length (number-in one l at) n 0 in

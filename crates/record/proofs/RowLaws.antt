@@ -14,10 +14,10 @@ use Rattle.format.specs.Difflist.{Entry, number-width, read-list}
 use Rattle.format.specs.Track.{array, against-anchor, plain, leaning, rule, off-anchor, apply, read-listed, read-kind, track-categories}
 use Rattle.format.proofs.CategoryLaws.{exchange-all-none, exchange-all-length}
 use Rattle.format.proofs.RowLaws.{apply-length}
-use Rattle.packed.specs.Unpacked.{unpacked, unpacked-two, out as unpack}
+use Rattle.packed.specs.Unpacked.{unpacked, unpacked-two, unpack-left}
 use Rattle.packed.specs.declared.PackedStep.the-variants.{Next, Refused as NotPacked}
-use Rattle.difflist.specs.Entries.{out}
-use Rattle.difflist.specs.Listed.{replied, listed}
+use Rattle.difflist.specs.Entries.{list-left}
+use Rattle.difflist.specs.Listed.{list-replied, listed}
 use Rattle.difflist.specs.declared.ListStep.{ListStep}
 use Rattle.difflist.specs.declared.ListStep.the-variants.{Listed, Refused}
 use Rattle.difflist.specs.declared.ListRule.the-variants.{OffRow}
@@ -42,29 +42,29 @@ module _ (l : List ℕ) (start n : ℕ) (row new : List ℕ) where
   unfolding kind-categories read-kind
   array-is = array-through (read-packed (length l) two n (drop start l))
 
-  pub array-next : (at : ℕ) → unpack (Next at) new ≡ unpacked-two n l start row
-      → out (Listed (record { at = at })) new ≡ stored false (length l) n row (kind-categories n row array l start)
+  pub array-next : (at : ℕ) → unpack-left (Next at) new ≡ unpacked-two n l start row
+      → list-left (Listed (record { at = at })) new ≡ stored false (length l) n row (kind-categories n row array l start)
   unfolding unpacked-two
   array-next at e = rw array-is (through (read-packed (length l) two n (drop start l)) e)
     where
-      through : (m : Out (List ℕ)) → unpack (Next at) new ≡ unpacked (length l) (λ vs. vs) n row m → out (Listed (record { at = at })) new ≡ stored false (length l) n row m
+      through : (m : Out (List ℕ)) → unpack-left (Next at) new ≡ unpacked (length l) (λ vs. vs) n row m → list-left (Listed (record { at = at })) new ≡ stored false (length l) n row m
       through (ok vs left) q = cc
       through (refuse number place) q = absurd (let z : _≡_ {A = ℕ} 0 1 = cc in omega arith)
 
-  pub array-refused : (number place : ℕ) → unpack (NotPacked number place) new ≡ unpacked-two n l start row
-      → out (Refused number place) (replicate n 0 ++ drop n new) ≡ stored false (length l) n row (kind-categories n row array l start)
+  pub array-refused : (number place : ℕ) → unpack-left (NotPacked number place) new ≡ unpacked-two n l start row
+      → list-left (Refused number place) (replicate n 0 ++ drop n new) ≡ stored false (length l) n row (kind-categories n row array l start)
   unfolding unpacked-two
   array-refused number place e = rw array-is (through (read-packed (length l) two n (drop start l)) e)
     where
-      through : (m : Out (List ℕ)) → unpack (NotPacked number place) new ≡ unpacked (length l) (λ vs. vs) n row m
-          → out (Refused number place) (replicate n 0 ++ drop n new) ≡ stored false (length l) n row m
+      through : (m : Out (List ℕ)) → unpack-left (NotPacked number place) new ≡ unpacked (length l) (λ vs. vs) n row m
+          → list-left (Refused number place) (replicate n 0 ++ drop n new) ≡ stored false (length l) n row m
       through (ok vs left) q = absurd (let z : _≡_ {A = ℕ} 0 1 = cc in omega arith)
       through (refuse number′ place′) q = cc
 
 -- ---- kinds 2 and 3
 
 module _ (l : List ℕ) (start n : ℕ) (inverted keep : Bool) (row : List ℕ) (h : n ≤ length row) (r : ListStep) (mid : List ℕ)
-    (told : out r mid ≡ listed (not keep) OffRow n l start row) where
+    (told : list-left r mid ≡ listed (not keep) OffRow n l start row) where
   abbrev read : Out (List Entry)
   read = read-list (rule n (off-anchor (take n row))) (number-width n) (length l) (drop start l)
 
@@ -83,7 +83,7 @@ module _ (l : List ℕ) (start n : ℕ) (inverted keep : Bool) (row : List ℕ) 
   applied-length es = apply-length es (take n row) ∙ length-take-le n row h
 
   abbrev Told : Out (List Entry) → Type 0
-  Told m = out r mid ≡ replied (not keep) (length l) n row m
+  Told m = list-left r mid ≡ list-replied (not keep) (length l) n row m
 
   was-told : Told read
   unfolding listed
@@ -91,7 +91,7 @@ module _ (l : List ℕ) (start n : ℕ) (inverted keep : Bool) (row : List ℕ) 
 
   -- the row that the list was put into, exchanged if the kind is inverted
   pub leaning-turned : (new : List ℕ) → new ≡ turned inverted keep n mid
-      → wiped keep n (out r new) ≡ stored keep (length l) n row (kind-categories n row (against-anchor inverted) l start)
+      → wiped keep n (list-left r new) ≡ stored keep (length l) n row (kind-categories n row (against-anchor inverted) l start)
   leaning-turned new g = rw leaning-is (through keep read was-told g)
     where
       cleared-rest : mid ≡ replicate n 0 ++ drop n row → drop n (exchange-all inverted (take n mid) ++ drop n mid) ≡ drop n row
@@ -100,8 +100,8 @@ module _ (l : List ℕ) (start n : ℕ) (inverted keep : Bool) (row : List ℕ) 
           let k : length (exchange-all inverted (take n mid)) ≡ n = rw t (exchange-all-length inverted (replicate n 0) ∙ length-replicate n 0) in
           rest-of n (exchange-all inverted (take n mid)) mid k ∙ rw e (zero-rest n row)
 
-      through : (k : Bool) (m : Out (List Entry)) → out r mid ≡ replied (not k) (length l) n row m → new ≡ turned inverted k n mid
-          → wiped k n (out r new) ≡ stored k (length l) n row (map-out categories m)
+      through : (k : Bool) (m : Out (List Entry)) → list-left r mid ≡ list-replied (not k) (length l) n row m → new ≡ turned inverted k n mid
+          → wiped k n (list-left r new) ≡ stored k (length l) n row (map-out categories m)
       through true (ok es left) p f =
           let q : r ≡ Listed (before (length l) left) = cc in
           let e : new ≡ row = cc in

@@ -11,14 +11,14 @@ use Rattle.record.specs.declared.RecordReply.{RecordReply}
 use Rattle.record.specs.declared.RecordReply.the-variants.{Accepted, Refused}
 
 -- a reply, with what the row then holds
-pub data Outcome : Type 0 where
-  done : RecordReply → List ℕ → Outcome
+pub data RecordLeft : Type 0 where
+  record-left : RecordReply → List ℕ → RecordLeft
 
 -- an accepted record's categories stand in the row's first n bytes; after a refusal they are zero. A kept row stays.
-abbrev pub replied : Bool → ℕ → List ℕ → Out Body → Outcome
-replied kept n row (ok body left) = done Accepted (pick kept row (body-categories n (take n row) body ++ drop n row))
-replied kept n row (refuse number place) = done (Refused number place) (pick kept row (replicate n 0 ++ drop n row))
+abbrev pub record-replied : Bool → ℕ → List ℕ → Out Body → RecordLeft
+record-replied kept n row (ok body left) = record-left Accepted (pick kept row (body-categories n (take n row) body ++ drop n row))
+record-replied kept n row (refuse number place) = record-left (Refused number place) (pick kept row (replicate n 0 ++ drop n row))
 
 -- the record of a kind at `start`, that ends where the list l does. The row is kept where a leaning record is only checked.
-unfoldable pub recorded : Bool → ℕ → ℕ → List ℕ → ℕ → List ℕ → Outcome
-recorded keep n number l start row = replied (leans number && keep) n row (read-body (length l) n (take n row) number (drop start l))
+unfoldable pub recorded : Bool → ℕ → ℕ → List ℕ → ℕ → List ℕ → RecordLeft
+recorded keep n number l start row = record-replied (leans number && keep) n row (read-body (length l) n (take n row) number (drop start l))

@@ -12,24 +12,24 @@ use Rattle.format.specs.Difflist.{number-width, read-list}
 use Rattle.format.specs.Track.{Kind, rule, apply, read-kind, track-categories}
 use Rattle.cursor.specs.Steps.{before}
 use Rattle.packed.specs.Unpacked.{of-pair}
-use Rattle.difflist.specs.Entries.{Outcome, out}
+use Rattle.difflist.specs.Entries.{ListLeft, list-left}
 use Rattle.difflist.specs.declared.ListStep.the-variants.{Listed, Refused}
 
 -- the row's first n bytes zero after a refusal, unless the row is kept
-abbrev pub wiped : Bool → ℕ → Outcome → Outcome
-wiped kept n (out (Listed c) row) = out (Listed c) row
-wiped kept n (out (Refused number place) row) = out (Refused number place) (pick kept row (replicate n 0 ++ drop n row))
+abbrev pub wiped : Bool → ℕ → ListLeft → ListLeft
+wiped kept n (list-left (Listed c) row) = list-left (Listed c) row
+wiped kept n (list-left (Refused number place) row) = list-left (Refused number place) (pick kept row (replicate n 0 ++ drop n row))
 
 -- categories in the row's first n bytes, zeros after a refusal, unless the row is kept
-abbrev pub stored : Bool → ℕ → ℕ → List ℕ → Out (List ℕ) → Outcome
-stored kept end n row (ok categories left) = out (Listed (before end left)) (pick kept row (categories ++ drop n row))
-stored kept end n row (refuse number place) = out (Refused number place) (pick kept row (replicate n 0 ++ drop n row))
+abbrev pub stored : Bool → ℕ → ℕ → List ℕ → Out (List ℕ) → ListLeft
+stored kept end n row (ok categories left) = list-left (Listed (before end left)) (pick kept row (categories ++ drop n row))
+stored kept end n row (refuse number place) = list-left (Refused number place) (pick kept row (replicate n 0 ++ drop n row))
 
 -- the categories of a track of a kind at `start`, over the row that holds its anchor's
 unfoldable pub kind-categories : ℕ → List ℕ → Kind → List ℕ → ℕ → Out (List ℕ)
 kind-categories n row k l start = map-out (track-categories n (take n row)) (read-kind (length l) n (take n row) k (drop start l))
 
-abbrev pub tracked : Bool → Kind → ℕ → List ℕ → ℕ → List ℕ → Outcome
+abbrev pub tracked : Bool → Kind → ℕ → List ℕ → ℕ → List ℕ → ListLeft
 tracked kept k n l start row = stored kept (length l) n row (kind-categories n row k l start)
 
 -- the bits and the list of a track of kind 1, after its pair code

@@ -14,9 +14,9 @@ ghost use mathlib.Core.List.{_++_};
 ghost use lib.ListN.{length, drop, replicate};
 ghost use Rattle.format.specs.Base.{pick};
 ghost use Rattle.format.specs.Track.{array, paired, against-anchor, against-category, kind, leans};
-ghost use Rattle.difflist.specs.Entries.{out};
+ghost use Rattle.difflist.specs.Entries.{list-left};
 ghost use Rattle.record.specs.Rows.{wiped, stored, pair-categories, tracked, turned};
-ghost use Rattle.record.specs.Recorded.{done, recorded};
+ghost use Rattle.record.specs.Recorded.{record-left, recorded};
 
 pub enum RecordReply {
     Accepted,
@@ -26,7 +26,7 @@ pub enum RecordReply {
 // "Kind 0: the packed array."
 fn read_array(s: &[u8], start: usize, n: usize, row: &mut [u8]) -> ListStep
     requires { ⌜ (start ≤ length (now s)) × (n ≤ 65536) × (n ≤ length (now row)) ⌝ }
-    ensures { λ r. ⌜ wiped false n (out r (now (row .exit))) ≡ tracked false array n (now (s .entry)) start (now (row .entry)) ⌝ }
+    ensures { λ r. ⌜ wiped false n (list-left r (now (row .exit))) ≡ tracked false array n (now (s .entry)) start (now (row .entry)) ⌝ }
 {
     let got = packed::unpack_categories(s, start, n, row);
     match got {
@@ -38,7 +38,7 @@ fn read_array(s: &[u8], start: usize, n: usize, row: &mut [u8]) -> ListStep
 // "a bit per sample (set: the higher category of the pair), then a list of pairs for samples in the other two categories"
 fn read_bits(s: &[u8], at: usize, n: usize, lower: u8, higher: u8, row: &mut [u8]) -> ListStep
     requires { ⌜ (at ≤ length (now s)) × (n ≤ 65536) × (n ≤ length (now row)) ⌝ }
-    ensures { λ r. ⌜ wiped false n (out r (now (row .exit))) ≡ stored false (length (now (s .entry))) n (now (row .entry)) (pair-categories lower higher n (now (s .entry)) at) ⌝ }
+    ensures { λ r. ⌜ wiped false n (list-left r (now (row .exit))) ≡ stored false (length (now (s .entry))) n (now (row .entry)) (pair-categories lower higher n (now (s .entry)) at) ⌝ }
 {
     let got = packed::unpack_pair(s, at, n, lower, higher, row);
     match got {
@@ -53,7 +53,7 @@ fn read_bits(s: &[u8], at: usize, n: usize, lower: u8, higher: u8, row: &mut [u8
 // "Kind 1: a pair code". 14, "pair code unknown", at "that byte".
 fn read_pair(s: &[u8], start: usize, n: usize, row: &mut [u8]) -> ListStep
     requires { ⌜ (start ≤ length (now s)) × (n ≤ 65536) × (n ≤ length (now row)) ⌝ }
-    ensures { λ r. ⌜ wiped false n (out r (now (row .exit))) ≡ tracked false paired n (now (s .entry)) start (now (row .entry)) ⌝ }
+    ensures { λ r. ⌜ wiped false n (list-left r (now (row .exit))) ≡ tracked false paired n (now (s .entry)) start (now (row .entry)) ⌝ }
 {
     let c = Cursor { at: start };
     let got = c.byte(s);
@@ -96,7 +96,7 @@ fn read_leaning(
     row: &mut [u8],
 ) -> ListStep
     requires { ⌜ (start ≤ length (now s)) × (n ≤ 65536) × (n ≤ length (now row)) ⌝ }
-    ensures { λ r. ⌜ wiped keep n (out r (now (row .exit))) ≡ tracked keep (against-anchor inverted) n (now (s .entry)) start (now (row .entry)) ⌝ }
+    ensures { λ r. ⌜ wiped keep n (list-left r (now (row .exit))) ≡ tracked keep (against-anchor inverted) n (now (s .entry)) start (now (row .entry)) ⌝ }
 {
     let c = Cursor { at: start };
     let got = difflist::apply_list(s, n, ListRule::OffRow, !keep, c, row);
@@ -107,7 +107,7 @@ fn read_leaning(
 // "Kinds 4, 6, 7: a list of the samples outside category 0, 2, 3": against a row in that category.
 fn read_sparse(s: &[u8], start: usize, n: usize, category: u8, row: &mut [u8]) -> ListStep
     requires { ⌜ (start ≤ length (now s)) × (n ≤ 65536) × (n ≤ length (now row)) ⌝ }
-    ensures { λ r. ⌜ wiped false n (out r (now (row .exit))) ≡ tracked false (against-category category) n (now (s .entry)) start (now (row .entry)) ⌝ }
+    ensures { λ r. ⌜ wiped false n (list-left r (now (row .exit))) ≡ tracked false (against-category category) n (now (s .entry)) start (now (row .entry)) ⌝ }
 {
     rowbytes::fill(row, n, category);
     let c = Cursor { at: start };
@@ -118,7 +118,7 @@ fn read_sparse(s: &[u8], start: usize, n: usize, category: u8, row: &mut [u8]) -
 fn read_track(s: &[u8], start: usize, n: usize, number: u8, keep: bool, row: &mut [u8]) -> ListStep
     requires { ⌜ (start ≤ length (now s)) × (n ≤ 65536) × (n ≤ length (now row)) ⌝ }
     requires { ⌜ (number < 8) × (number ≡ 5 → ⊥) ⌝ }
-    ensures { λ r. ⌜ wiped (leans number && keep) n (out r (now (row .exit))) ≡ tracked (leans number && keep) (kind number) n (now (s .entry)) start (now (row .entry)) ⌝ }
+    ensures { λ r. ⌜ wiped (leans number && keep) n (list-left r (now (row .exit))) ≡ tracked (leans number && keep) (kind number) n (now (s .entry)) start (now (row .entry)) ⌝ }
 {
     if number == 0 {
         return read_array(s, start, n, row);
@@ -157,7 +157,7 @@ pub fn read_body(
 ) -> RecordReply
     requires { ⌜ (start ≤ length (now s)) × (n ≤ 65536) × (n ≤ length (now row)) ⌝ }
     requires { ⌜ (kind < 8) × (kind ≡ 5 → ⊥) ⌝ }
-    ensures { λ r. ⌜ done r (now (row .exit)) ≡ recorded keep n kind (now (s .entry)) start (now (row .entry)) ⌝ }
+    ensures { λ r. ⌜ record-left r (now (row .exit)) ≡ recorded keep n kind (now (s .entry)) start (now (row .entry)) ⌝ }
 {
     let got = read_track(s, start, n, kind, keep, row);
     match got {

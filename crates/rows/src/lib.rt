@@ -8,7 +8,7 @@ ghost use Rattle.format.specs.Layout.{plain-mode};
 ghost use Rattle.format.specs.Header.{type-place};
 ghost use Rattle.blocks.specs.Parts.{fixed};
 ghost use Rattle.rows.specs.declared.Found.the-variants as found-as;
-ghost use Rattle.rows.specs.Calls.{start-rows-call, next-record, found, past, Ready, read-at, alone, over-anchor, row-left, next-row-call};
+ghost use Rattle.rows.specs.Calls.{start-rows-call, next-record, found, past, RowReady, read-at, alone, over-anchor, row-left, next-row-call};
 use blocks::Fields;
 use blocks::blocks_of;
 use blocks::header_end;
@@ -160,7 +160,7 @@ fn past(rows: Rows, end: usize, refusal: u8, place: usize) -> Rows
 
 // A record that leans on none is read in the work area, where its categories stay for those that lean on it.
 fn read_alone(rows: Rows, file: &[u8], p: Place, output: &mut [u8], work: &mut [u8]) -> RowStep
-    requires { ⌜ Ready rows (now file) p (now output) (now work) ⌝ }
+    requires { ⌜ RowReady rows (now file) p (now output) (now work) ⌝ }
     ensures { λ r. ⌜ row-left r (now (output .exit)) (now (work .exit)) ≡ alone rows (p .end) (now (output .entry)) (read-at rows (now (file .entry)) p (now (work .entry))) ⌝ }
 {
     let end = p.end;
@@ -183,7 +183,7 @@ fn read_alone(rows: Rows, file: &[u8], p: Place, output: &mut [u8], work: &mut [
 
 // One that leans is checked over the work area, which stays, and then read in the output over a copy of it: a refusal finds the output untouched.
 fn read_leaning(rows: Rows, file: &[u8], p: Place, output: &mut [u8], work: &mut [u8]) -> RowStep
-    requires { ⌜ Ready rows (now file) p (now output) (now work) × (leans (p .kind) ≡ true) ⌝ }
+    requires { ⌜ RowReady rows (now file) p (now output) (now work) × (leans (p .kind) ≡ true) ⌝ }
     ensures { λ r. ⌜ row-left r (now (output .exit)) (now (work .exit)) ≡ over-anchor rows (now (file .entry)) p (now (output .entry)) (now (work .entry)) ⌝ }
 {
     let end = p.end;

@@ -22,7 +22,7 @@ use Rattle.format.proofs.Rules.{Holds, by-need, by-bind}
 use Rattle.format.proofs.VarintLaws.{varint-length}
 use Rattle.format.proofs.PackedLaws.{packed-length}
 use Rattle.format.proofs.OffsetsLaws.{from-1-to-most, from-1-to-positive}
-use Rattle.listparts.specs.Rows.{listed}
+use Rattle.listparts.specs.Rows.{listed-entries}
 use Rattle.bytewriter.specs.Written.{Wrote}
 use Rattle.bytewriter.proofs.WrittenLaws.{wrote-front}
 use Rattle.writer.specs.Asked.{asked-for, asked-bytes, is-allowed, HasBase, AskedFits}
@@ -121,7 +121,7 @@ record-some : (a : Asked) (anchor categories : List ℕ) → is-allowed a ≡ tr
 record-some asked.Array anchor categories t h = omega (arith, packed-length two (length categories) categories refl)
 record-some (asked.Pair p) anchor categories t h = omega arith
 record-some (asked.List b) anchor categories t h =
-    let es : List Entry = listed b anchor categories in
+    let es : List Entry = listed-entries b anchor categories in
     omega (arith, varint-length (length es), length-append (varint-bytes (length es)) (list-parts (number-width (length categories)) es))
 record-some asked.NotAllowed anchor categories t h = let z : _≡_ {A = ℕ} 0 1 = cc in absurd (omega arith)
 

@@ -15,7 +15,7 @@ use Rattle.bytewriter.specs.declared.Array.{Array}
 use Rattle.bytewriter.specs.declared.Array.the-variants as arrays
 use Rattle.bytewriter.proofs.ArrayLaws.{numbers-length}
 use Rattle.bytewriter.proofs.WrittenLaws.{wrote-both, wrote-length, wrote-nothing}
-use Rattle.listparts.specs.Rows.{listed}
+use Rattle.listparts.specs.Rows.{listed-entries}
 use Rattle.listparts.specs.declared.Base.{Base}
 use Rattle.listparts.specs.declared.Base.the-variants as base
 use Rattle.listwriter.specs.Sizes.{SizeOf}
@@ -34,15 +34,15 @@ module _ (a : Asked) (anchor categories : List ℕ) where
       → RecordSize a anchor categories (record { count = 0; bytes = bytes })
   size-array q bytes e = rw q (record { count-is = refl; bytes-are = array-length arrays.Categories categories bytes e })
 
-  pub size-list : (b : Base) → a ≡ asked.List b → (r : ListSize) → SizeOf (length categories) (listed b anchor categories) r → RecordSize a anchor categories r
+  pub size-list : (b : Base) → a ≡ asked.List b → (r : ListSize) → SizeOf (length categories) (listed-entries b anchor categories) r → RecordSize a anchor categories r
   size-list b q r s = rw q (record { count-is = s .count-is; bytes-are = s .bytes-are })
 
   pub size-pair : (p : Pair) → a ≡ asked.Pair p → (bits : ℕ) (r : ListSize) → bits ≡ packed-size (width (arrays.Bits (p .higher))) (length categories)
-      → SizeOf (length categories) (listed (base.Pair (p .lower) (p .higher)) anchor categories) r
+      → SizeOf (length categories) (listed-entries (base.Pair (p .lower) (p .higher)) anchor categories) r
       → RecordSize a anchor categories (record { count = r .count; bytes = 1 + bits + r .bytes })
   size-pair p q bits r e s =
       let xs : List ℕ = array-bytes (arrays.Bits (p .higher)) categories in
-      let ys : List ℕ = list-bytes (number-width (length categories)) (listed (base.Pair (p .lower) (p .higher)) anchor categories) in
+      let ys : List ℕ = list-bytes (number-width (length categories)) (listed-entries (base.Pair (p .lower) (p .higher)) anchor categories) in
       rw q
       (record {
         count-is = s .count-is;
@@ -56,7 +56,7 @@ module _ (p : Pair) (anchor categories to : List ℕ) (fit : length (asked-bytes
   bits = array-bytes (arrays.Bits (p .higher)) categories
 
   abbrev list : List ℕ
-  list = list-bytes (number-width (length categories)) (listed (base.Pair (p .lower) (p .higher)) anchor categories)
+  list = list-bytes (number-width (length categories)) (listed-entries (base.Pair (p .lower) (p .higher)) anchor categories)
 
   code-written : Wrote to 0 (p .code ∷ []) 1 (set to 0 (p .code))
   code-written = record { place = refl; same = refl }
@@ -65,10 +65,10 @@ module _ (p : Pair) (anchor categories to : List ℕ) (fit : length (asked-bytes
   room-bits = omega (arith, wrote-length code-written, length-append bits list)
 
   module _ {r : ℕ} {mid : List ℕ} (w : Wrote (set to 0 (p .code)) 1 (array-bytes (arrays.Bits (p .higher)) categories) r mid) where
-    pub room-list : r + length (list-bytes (number-width (length categories)) (listed (base.Pair (p .lower) (p .higher)) anchor categories)) ≤ length mid
+    pub room-list : r + length (list-bytes (number-width (length categories)) (listed-entries (base.Pair (p .lower) (p .higher)) anchor categories)) ≤ length mid
     room-list = omega (arith, w .place, wrote-length w, wrote-length code-written, length-append bits list)
 
-    pub pair-written : {s : ℕ} {after : List ℕ} → Wrote mid r (list-bytes (number-width (length categories)) (listed (base.Pair (p .lower) (p .higher)) anchor categories)) s after
+    pub pair-written : {s : ℕ} {after : List ℕ} → Wrote mid r (list-bytes (number-width (length categories)) (listed-entries (base.Pair (p .lower) (p .higher)) anchor categories)) s after
         → Wrote to 0 (asked-bytes (asked.Pair p) anchor categories) s after
     pair-written v = wrote-both (wrote-both code-written w) v
 
@@ -79,10 +79,10 @@ module _ (a : Asked) (anchor categories to : List ℕ) where
   room-array q h = let k : length (array-bytes arrays.Categories categories) ≤ length to = rw q at h in omega arith
 
   pub room-of-list : (b : Base) → a ≡ asked.List b → length (asked-bytes a anchor categories) ≤ length to
-      → 0 + length (list-bytes (number-width (length categories)) (listed b anchor categories)) ≤ length to
-  room-of-list b q h = let k : length (list-bytes (number-width (length categories)) (listed b anchor categories)) ≤ length to = rw q at h in omega arith
+      → 0 + length (list-bytes (number-width (length categories)) (listed-entries b anchor categories)) ≤ length to
+  room-of-list b q h = let k : length (list-bytes (number-width (length categories)) (listed-entries b anchor categories)) ≤ length to = rw q at h in omega arith
 
-  pub count-of-list : (b : Base) → a ≡ asked.List b → (count : ℕ) → count ≡ asked-count a anchor categories → count ≡ length (listed b anchor categories)
+  pub count-of-list : (b : Base) → a ≡ asked.List b → (count : ℕ) → count ≡ asked-count a anchor categories → count ≡ length (listed-entries b anchor categories)
   count-of-list b q count e = rw q at e
 
   pub nothing-written : a ≡ asked.NotAllowed → Wrote to 0 (asked-bytes a anchor categories) 0 to

@@ -12,7 +12,7 @@ use Rattle.format.specs.PairCode.{pair, Coded, coded, not-coded, code-numbered}
 use Rattle.format.specs.Track.{Kind, array, paired, against-anchor, against-category, no-kind, kind}
 use Rattle.bytewriter.specs.Arrays.{array-bytes}
 use Rattle.bytewriter.specs.declared.Array.the-variants as arrays
-use Rattle.listparts.specs.Rows.{base-row, listed}
+use Rattle.listparts.specs.Rows.{base-row, listed-entries}
 use Rattle.listparts.specs.declared.Base.the-variants as base
 use Rattle.listwriter.specs.declared.ListSize.{ListSize}
 use Rattle.writer.specs.declared.Asked.{Asked}
@@ -46,15 +46,15 @@ abbrev pub asked-bytes : Asked → List ℕ → List ℕ → List ℕ
 asked-bytes asked.Array anchor categories = array-bytes arrays.Categories categories
 asked-bytes (asked.Pair p) anchor categories =
     p .code ∷ (array-bytes (arrays.Bits (p .higher)) categories
-    ++ list-bytes (number-width (length categories)) (listed (base.Pair (p .lower) (p .higher)) anchor categories))
-asked-bytes (asked.List b) anchor categories = list-bytes (number-width (length categories)) (listed b anchor categories)
+    ++ list-bytes (number-width (length categories)) (listed-entries (base.Pair (p .lower) (p .higher)) anchor categories))
+asked-bytes (asked.List b) anchor categories = list-bytes (number-width (length categories)) (listed-entries b anchor categories)
 asked-bytes asked.NotAllowed anchor categories = []
 
 -- the count of its list
 abbrev pub asked-count : Asked → List ℕ → List ℕ → ℕ
 asked-count asked.Array anchor categories = 0
-asked-count (asked.Pair p) anchor categories = length (listed (base.Pair (p .lower) (p .higher)) anchor categories)
-asked-count (asked.List b) anchor categories = length (listed b anchor categories)
+asked-count (asked.Pair p) anchor categories = length (listed-entries (base.Pair (p .lower) (p .higher)) anchor categories)
+asked-count (asked.List b) anchor categories = length (listed-entries b anchor categories)
 asked-count asked.NotAllowed anchor categories = 0
 
 -- ---- a record that may be written: a list has a base for every sample

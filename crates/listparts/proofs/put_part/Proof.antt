@@ -4,7 +4,7 @@ use borrow.Author.Needs.{needs}
 use Rattle.listparts.proofs.PartLaws.{Inv, start, turn-room, turn-next, turn-done}
 use Rattle.listparts.proofs.RowLaws.{row-length}
 use Rattle.listparts.specs.Parts.{part-bytes}
-use Rattle.listparts.specs.Rows.{row, base-row, listed}
+use Rattle.listparts.specs.Rows.{row, base-row, listed-entries}
 use lib.Seq.{sets}
 use lib.ListN.{length}
 use native.Mathlib.Omega.{arith}
@@ -13,7 +13,7 @@ use Rattle.listparts.proofs.put_part.Statement.{statement}
 use Rattle.listparts.proofs.put_part.Tie as tie
 
 abbrev Inv-loop : tie.InvT-loop
-Inv-loop part base categories anchor output₀ at group₀ place₀ i₀ output group place i = Inv part (base-row base anchor categories) (row base categories) (length categories) (length output₀) (at + length (part-bytes part (length categories) (listed base anchor categories))) (sets output₀ at (part-bytes part (length categories) (listed base anchor categories))) output group place i
+Inv-loop part base categories anchor output₀ at group₀ place₀ i₀ output group place i = Inv part (base-row base anchor categories) (row base categories) (length categories) (length output₀) (at + length (part-bytes part (length categories) (listed-entries base anchor categories))) (sets output₀ at (part-bytes part (length categories) (listed-entries base anchor categories))) output group place i
 
 abbrev μ-loop : tie.MeasureT-loop
 μ-loop part base categories anchor output₀ at group₀ place₀ i₀ output group place i = length categories - i

@@ -1,7 +1,7 @@
 -- `listwriter::list_size` meets its contract: the size is the sum of the parts' sizes.
 -- Assumes nothing.
 use Rattle.listwriter.proofs.ListLaws.{listed-most, size-none, size-bound, size-some}
-use Rattle.listparts.specs.Rows.{listed}
+use Rattle.listparts.specs.Rows.{listed-entries}
 use Rattle.format.proofs.VarintLaws.{varint-length}
 use lib.ListN.{length}
 use native.Mathlib.Omega.{arith}
@@ -16,7 +16,7 @@ returns : tie.Need-returns
 returns c =
     let args = c .before .before .before .before .args in
     let measure = c .before .measure in
-    size-none (length (args .categories .now)) (listed (args .base) (args .anchor .now) (args .categories .now)) (measure .result .count)
+    size-none (length (args .categories .now)) (listed-entries (args .base) (args .anchor .now) (args .categories .now)) (measure .result .count)
     (measure .result .steps) (measure .ensures .count-is) (measure .ensures .steps-are) (c .if1 .taken)
 
 add-groups : tie.Need-add-groups
@@ -35,7 +35,7 @@ mul-heads c =
     let measure = c .before .before .measure in
     let pre = c .before .before .before .before .before .pre in
     omega
-    (arith, size-bound (length (args .categories .now)) (listed (args .base) (args .anchor .now) (args .categories .now)) (measure .result .count) (measure .result .steps) (measure .ensures .count-is) (measure .ensures .steps-are) (c .number-size .result) (c .number-size .ensures) (listed-most (args .base) (args .anchor .now) (args .categories .now) pre))
+    (arith, size-bound (length (args .categories .now)) (listed-entries (args .base) (args .anchor .now) (args .categories .now)) (measure .result .count) (measure .result .steps) (measure .ensures .count-is) (measure .ensures .steps-are) (c .number-size .result) (c .number-size .ensures) (listed-most (args .base) (args .anchor .now) (args .categories .now) pre))
 
 add-values : tie.Need-add-values
 add-values c =
@@ -58,7 +58,7 @@ add-bytes c =
     let number-size = c .before .number-size in
     let pre = c .before .before .before .before .before .before .pre in
     omega
-    (arith, size-bound (length (args .categories .now)) (listed (args .base) (args .anchor .now) (args .categories .now)) (measure .result .count) (measure .result .steps) (measure .ensures .count-is) (measure .ensures .steps-are) (number-size .result) (number-size .ensures) (listed-most (args .base) (args .anchor .now) (args .categories .now) pre), (c .varint-size .ensures), varint-length (measure .result .count))
+    (arith, size-bound (length (args .categories .now)) (listed-entries (args .base) (args .anchor .now) (args .categories .now)) (measure .result .count) (measure .result .steps) (measure .ensures .count-is) (measure .ensures .steps-are) (number-size .result) (number-size .ensures) (listed-most (args .base) (args .anchor .now) (args .categories .now) pre), (c .varint-size .ensures), varint-length (measure .result .count))
 
 sub-bytes : tie.Need-sub-bytes
 sub-bytes c = search needs
@@ -70,7 +70,7 @@ add-bytes-2 c =
     let number-size = c .before .number-size in
     let pre = c .before .before .before .before .before .before .pre in
     omega
-    (arith, size-bound (length (args .categories .now)) (listed (args .base) (args .anchor .now) (args .categories .now)) (measure .result .count) (measure .result .steps) (measure .ensures .count-is) (measure .ensures .steps-are) (number-size .result) (number-size .ensures) (listed-most (args .base) (args .anchor .now) (args .categories .now) pre), (c .varint-size .ensures), varint-length (measure .result .count))
+    (arith, size-bound (length (args .categories .now)) (listed-entries (args .base) (args .anchor .now) (args .categories .now)) (measure .result .count) (measure .result .steps) (measure .ensures .count-is) (measure .ensures .steps-are) (number-size .result) (number-size .ensures) (listed-most (args .base) (args .anchor .now) (args .categories .now) pre), (c .varint-size .ensures), varint-length (measure .result .count))
 
 add-bytes-3 : tie.Need-add-bytes-3
 add-bytes-3 c =
@@ -79,7 +79,7 @@ add-bytes-3 c =
     let number-size = c .before .number-size in
     let pre = c .before .before .before .before .before .before .pre in
     omega
-    (arith, size-bound (length (args .categories .now)) (listed (args .base) (args .anchor .now) (args .categories .now)) (measure .result .count) (measure .result .steps) (measure .ensures .count-is) (measure .ensures .steps-are) (number-size .result) (number-size .ensures) (listed-most (args .base) (args .anchor .now) (args .categories .now) pre), (c .varint-size .ensures), varint-length (measure .result .count))
+    (arith, size-bound (length (args .categories .now)) (listed-entries (args .base) (args .anchor .now) (args .categories .now)) (measure .result .count) (measure .result .steps) (measure .ensures .count-is) (measure .ensures .steps-are) (number-size .result) (number-size .ensures) (listed-most (args .base) (args .anchor .now) (args .categories .now) pre), (c .varint-size .ensures), varint-length (measure .result .count))
 
 add-bytes-4 : tie.Need-add-bytes-4
 add-bytes-4 c =
@@ -89,7 +89,7 @@ add-bytes-4 c =
     let pre = c .before .before .before .before .before .before .before .pre in
     let varint-size = c .before .varint-size in
     omega
-    (arith, size-bound (length (args .categories .now)) (listed (args .base) (args .anchor .now) (args .categories .now)) (measure .result .count) (measure .result .steps) (measure .ensures .count-is) (measure .ensures .steps-are) (number-size .result) (number-size .ensures) (listed-most (args .base) (args .anchor .now) (args .categories .now) pre), (varint-size .ensures), varint-length (measure .result .count))
+    (arith, size-bound (length (args .categories .now)) (listed-entries (args .base) (args .anchor .now) (args .categories .now)) (measure .result .count) (measure .result .steps) (measure .ensures .count-is) (measure .ensures .steps-are) (number-size .result) (number-size .ensures) (listed-most (args .base) (args .anchor .now) (args .categories .now) pre), (varint-size .ensures), varint-length (measure .result .count))
 
 returns-2 : tie.Need-returns-2
 returns-2 c =
@@ -97,7 +97,7 @@ returns-2 c =
     let measure = c .before .before .before .before .measure in
     let number-size = c .before .before .number-size in
     let varint-size = c .before .varint-size in
-    size-some (length (args .categories .now)) (listed (args .base) (args .anchor .now) (args .categories .now)) (measure .result .count)
+    size-some (length (args .categories .now)) (listed-entries (args .base) (args .anchor .now) (args .categories .now)) (measure .result .count)
     (measure .result .steps) (measure .ensures .count-is) (measure .ensures .steps-are) (number-size .result) (varint-size .result) (number-size .ensures)
     (varint-size .ensures)
 

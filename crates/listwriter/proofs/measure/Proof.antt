@@ -5,7 +5,7 @@ use Rattle.listwriter.proofs.CountLaws.{Inv, start, turn-next, turn-don
 use Rattle.listparts.proofs.RowLaws.{row-length}
 use Rattle.listparts.specs.declared.Part.the-variants.{Steps}
 use Rattle.listparts.specs.Parts.{part-bytes}
-use Rattle.listparts.specs.Rows.{row, base-row, listed}
+use Rattle.listparts.specs.Rows.{row, base-row, listed-entries}
 use lib.ListN.{length}
 use native.Mathlib.Omega.{arith}
 use Prim.Native.Nat.{_-_}
@@ -13,7 +13,7 @@ use Rattle.listwriter.proofs.measure.Statement.{statement}
 use Rattle.listwriter.proofs.measure.Tie as tie
 
 abbrev Inv-loop : tie.InvT-loop
-Inv-loop base categories anchor counted₀ i₀ counted i = Inv (base-row base anchor categories) (row base categories) (length (listed base anchor categories)) (length (part-bytes Steps 0 (listed base anchor categories))) counted i
+Inv-loop base categories anchor counted₀ i₀ counted i = Inv (base-row base anchor categories) (row base categories) (length (listed-entries base anchor categories)) (length (part-bytes Steps 0 (listed-entries base anchor categories))) counted i
 
 abbrev μ-loop : tie.MeasureT-loop
 μ-loop base categories anchor counted₀ i₀ counted i = length categories - i

@@ -5,7 +5,7 @@ use Rattle.listwriter.proofs.ValueLaws.{Inv, start, packing-small, turn
 use Rattle.listwriter.specs.Values.{values-bytes}
 use Rattle.bytewriter.proofs.ArrayLaws.{below-at}
 use Rattle.listparts.proofs.RowLaws.{row-length, row-below}
-use Rattle.listparts.specs.Rows.{row, base-row, listed}
+use Rattle.listparts.specs.Rows.{row, base-row, listed-entries}
 use lib.Seq.{sets}
 use lib.ListN.{length, length-set}
 use native.Mathlib.Omega.{arith}
@@ -14,7 +14,7 @@ use Rattle.listwriter.proofs.put_values.Statement.{statement}
 use Rattle.listwriter.proofs.put_values.Tie as tie
 
 abbrev Inv-loop : tie.InvT-loop
-Inv-loop base categories anchor output₀ at packing₀ i₀ output packing i = Inv (base-row base anchor categories) (row base categories) (length output₀) (at + length (values-bytes (listed base anchor categories))) (sets output₀ at (values-bytes (listed base anchor categories))) output packing i
+Inv-loop base categories anchor output₀ at packing₀ i₀ output packing i = Inv (base-row base anchor categories) (row base categories) (length output₀) (at + length (values-bytes (listed-entries base anchor categories))) (sets output₀ at (values-bytes (listed-entries base anchor categories))) output packing i
 
 abbrev μ-loop : tie.MeasureT-loop
 μ-loop base categories anchor output₀ at packing₀ i₀ output packing i = length categories - i

@@ -4,7 +4,7 @@ use Rattle.writer.proofs.SizeLaws.{size-array, size-list, size-pair}
 use Rattle.writer.proofs.AskedLaws.{rows-list, rows-pair}
 use Rattle.listwriter.proofs.ListLaws.{listed-most, list-most}
 use Rattle.listparts.specs.declared.Base.the-variants as base
-use Rattle.listparts.specs.Rows.{listed}
+use Rattle.listparts.specs.Rows.{listed-entries}
 use lib.ListN.{length}
 use native.Mathlib.Omega.{arith}
 use borrow.Author.Needs.{needs}
@@ -41,7 +41,7 @@ add-t17 c =
     let list-size = c .before .list-size in
     let array-size2 = c .before .before .array-size2 in
     let p = (asked .given .0 .0) in let rows = rows-pair (args .asked) p (args .anchor .now) (args .categories .now) pre in omega
-    (arith, (list-size .ensures .bytes-are), (array-size2 .ensures), (pre .few), list-most (length (args .categories .now)) (listed (base.Pair (p .lower) (p .higher)) (args .anchor .now) (args .categories .now)) (listed-most (base.Pair (p .lower) (p .higher)) (args .anchor .now) (args .categories .now) rows))
+    (arith, (list-size .ensures .bytes-are), (array-size2 .ensures), (pre .few), list-most (length (args .categories .now)) (listed-entries (base.Pair (p .lower) (p .higher)) (args .anchor .now) (args .categories .now)) (listed-most (base.Pair (p .lower) (p .higher)) (args .anchor .now) (args .categories .now) rows))
 
 enum-known-asked-2 : tie.Need-enum-known-asked-2
 enum-known-asked-2 c = search needs
