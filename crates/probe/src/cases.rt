@@ -2,7 +2,7 @@
 ghost use Prim.Native.Nat.{_<_, _≤_};
 
 pub struct Case {
-    pub call: u8,
+    pub call: usize,
     pub x: usize,
     pub y: usize,
     pub first: usize,
@@ -11,19 +11,24 @@ pub struct Case {
     pub work: usize,
 }
 
-// The byte at a place of the head, or 0 past its end.
-fn byte(head: &[u8], at: usize) -> usize
+// A byte as a number.
+fn wide(byte: u8) -> usize
     ensures { λ r. ⌜ r < 256 ⌝ }
 {
-    if at < head.len() {
-        return head[at] as usize;
-    }
-    0
+    byte as usize
+}
+
+// The byte at a place of the head.
+fn byte(head: &[u8; 33], at: usize) -> usize
+    requires { ⌜ at < 33 ⌝ }
+    ensures { λ r. ⌜ r < 256 ⌝ }
+{
+    wide(head[at])
 }
 
 // The little-endian numbers of four and of eight bytes.
-fn four(head: &[u8], at: usize) -> usize
-    requires { ⌜ at ≤ 33 ⌝ }
+fn four(head: &[u8; 33], at: usize) -> usize
+    requires { ⌜ at ≤ 29 ⌝ }
     ensures { λ r. ⌜ r < 4294967296 ⌝ }
 {
     byte(head, at)
@@ -32,19 +37,15 @@ fn four(head: &[u8], at: usize) -> usize
         + 16777216 * byte(head, at + 3)
 }
 
-fn eight(head: &[u8], at: usize) -> usize
-    requires { ⌜ at ≤ 20 ⌝ }
+fn eight(head: &[u8; 33], at: usize) -> usize
+    requires { ⌜ at ≤ 25 ⌝ }
 {
     four(head, at) + 4294967296 * four(head, at + 4)
 }
 
-fn call_of(head: &[u8]) -> u8 {
-    if 0 < head.len() { head[0] } else { 0 }
-}
-
-pub fn case_of(head: &[u8]) -> Case {
+pub fn case_of(head: &[u8; 33]) -> Case {
     Case {
-        call: call_of(head),
+        call: byte(head, 0),
         x: eight(head, 1),
         y: eight(head, 9),
         first: four(head, 17),
@@ -54,8 +55,12 @@ pub fn case_of(head: &[u8]) -> Case {
     }
 }
 
-// Limits: the first string up to 524,288 bytes; the second, the output and the work area up to 131,072 each.
-pub fn allowed(c: Case) -> bool {
+// The head came whole, names a call and keeps the limits: the first string up to 524,288 bytes; the second, the output and the work area up to
+// 131,072 each.
+pub fn allowed(c: Case, got: usize) -> bool {
+    if got < 33 {
+        return false;
+    }
     if c.call == 0 {
         return false;
     }
