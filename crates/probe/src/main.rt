@@ -16,7 +16,6 @@ fn answer(c: Case, first: &mut [u8], second: &mut [u8]) {
     io::read_full(0, first);
     io::read_full(0, second);
     run(c, first, second);
-    text::flush(b"\n", 1);
 }
 
 // A case whose head was read, on as much of the two buffers as its strings take.
