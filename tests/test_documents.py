@@ -1,4 +1,4 @@
-"""The documents name what is there: files, must-fail edits, definitions and theorems."""
+"""The documents name what is there: files, must-fail edits, definitions and theorems. The public calls ask for nothing, and have one equation each."""
 import re
 import unittest
 from pathlib import Path
@@ -23,6 +23,12 @@ def edits():
     return {f"{f.parent.parent.name}/{f.stem}" for f in (ROOT / "crates").glob("*/must-fail/*.edit")}
 
 
+def calls():
+    """The public calls: what a caller writes, the crate where the call stands, and its name there."""
+    text = (ROOT / "crates" / "pgen" / "src" / "lib.rt").read_text(encoding="utf-8")
+    return [(alias or name, crate, name) for crate, name, alias in re.findall(r"^pub use (\w+)::(\w+)(?: as (\w+))?;$", text, re.M)]
+
+
 class Documents(unittest.TestCase):
     def test_files_are_there(self):
         for document in DOCUMENTS:
@@ -37,6 +43,25 @@ class Documents(unittest.TestCase):
             for span in spans(document):
                 if re.fullmatch(r"[a-z]+/[a-z0-9_]+", span) and span.split("/")[0] not in folders:
                     self.assertTrue(span in edits(), f"{document.name}: {span}")
+
+    def test_laws_are_there(self):
+        for document in DOCUMENTS:
+            for span in spans(document):
+                if re.fullmatch(r"[a-z]+/[A-Z]\w+", span) and not span.startswith(("specs/", "proofs/")):
+                    crate, module = span.split("/")
+                    self.assertTrue((ROOT / "crates" / crate / "proofs" / f"{module}.antt").exists(), f"{document.name}: {span}")
+
+    def test_calls_stand_where_told(self):
+        readme = (ROOT / "README.md").read_text(encoding="utf-8")
+        self.assertEqual(len(calls()), 9)
+        for call, crate, _ in calls():
+            self.assertRegex(readme, rf"(?m)^\| `{call}\(.* \| `{crate}`[^|]*\|$")
+
+    def test_calls_ask_for_nothing(self):
+        for call, crate, name in calls():
+            source = (ROOT / "crates" / crate / "src" / "lib.rt").read_text(encoding="utf-8")
+            contract = re.search(rf"(?ms)^pub fn {name}\b.*?^{{$", source).group()
+            self.assertEqual((contract.count("requires"), contract.count("ensures"), contract.count("≡")), (0, 1, 1), f"{call}: {contract}")
 
     def test_every_edit_is_listed(self):
         listed = set(spans(ROOT / "docs" / "THEOREMS.md"))

@@ -18,10 +18,8 @@ use Rattle.format.specs.Header.{read-layout}
 use Rattle.format.specs.File.{file-of, read-all, read-file, flip-bytes}
 use Rattle.format.specs.Reply.{emptied, keeps-work, header-left, header-call, member, past-last, flip-left, flip-call}
 use Rattle.format.proofs.Rules.{Holds}
-use Rattle.format.proofs.Refuses.{Refuses, Within}
 use Rattle.format.proofs.OffsetsLaws.{from-1-to-most}
-use Rattle.format.proofs.FileLaws.{bodies-are-bytes, IsFile, file-as-written}
-use Rattle.format.proofs.CallRefusals.{all-refusals}
+use Rattle.format.proofs.FileLaws.{IsFile, file-as-written}
 use Rattle.places.specs.Located.{HasLayout}
 use Rattle.places.proofs.FromReply.{reply-accepted, reply-refused}
 use Rattle.record.specs.declared.RecordReply.{RecordReply}
@@ -29,9 +27,9 @@ use Rattle.record.specs.declared.RecordReply.the-variants as of
 use Rattle.record.specs.Recorded.{record-left}
 use Rattle.flipfile.specs.Accepted as whole
 use Rattle.reader.specs.Rows.{HasRow, all-checked}
-use Rattle.extents.proofs.AcceptedLaws.{obeys, written}
-use Rattle.reader.proofs.Replies.{row-of, reply-of, WasRead, was-accepted, was-refused}
-use Rattle.reader.proofs.WorkLaws.{header-keeps, record-clears}
+use Rattle.extents.proofs.AcceptedLaws.{obeys}
+use Rattle.reader.proofs.Replies.{row-of, reply-of, WasRead, was-accepted}
+use Rattle.reader.proofs.WorkLaws.{header-keeps, check-clears}
 
 module _ (bs set work : List ℕ) (y : Bytes bs) (r : HeaderReply) (e : header-left r ≡ header-call 65536 bs) where
   -- 1 to 9
@@ -101,11 +99,8 @@ module _ (bs set work : List ℕ) (y : Bytes bs) (r : HeaderReply) (e : header-l
 
           pub flip-records-refused : (number place : ℕ) → got ≡ of.Refused number place → flip-left (Refused number place) bs work₁ ≡ flip-call 65536 bs set work
           flip-records-refused number place s =
-              let l : Layout = has .layout in
-              let n : read-all 65536 l ≡ refuse number place = was-refused (List Body) (read-all 65536 l) number place (sym (ap reply-of found) ∙ s) in
-              let all : Refuses (Within 12 18) (read-all 65536 l)
-              = all-refusals 65536 l (lit< tt) (obeys bs y l (has .accepted)) (bodies-are-bytes 65536 bs l y (written bs y l (has .accepted))) in
-              ap (flip-left (Refused number place) bs) left-work ∙ refused-call number place n (record-clears number (subst (Refuses (Within 12 18)) n all))
+              let x = check-clears bs y (has .layout) (has .accepted) got work work₁ found number place s in
+              ap (flip-left (Refused number place) bs) left-work ∙ refused-call number place (x .0) (x .1)
 
           -- accepted
           module _ (s : got ≡ of.Accepted) where

@@ -1,11 +1,10 @@
 -- What the whole-file check replies and leaves, by what the header check and the records were found to be.
 -- Assumes nothing.
-use mathlib.Core.Path.{_≡_, refl, sym, ap, _∙_, subst}
+use mathlib.Core.Path.{_≡_, refl, sym, ap, _∙_}
 use Prim.Native.Nat.{ℕ, _≤_, _<_}
 use mathlib.Core.Bool.{false}
 use mathlib.Core.List.{List, []}
 use lib.ListN.{length}
-use lib.Dec.{lit<}
 use native.Mathlib.Omega.{arith}
 use borrow.Author.Tests.{le-leb, lt-leb}
 use Rattle.format.specs.declared.HeaderReply.{HeaderReply}
@@ -16,18 +15,14 @@ use Rattle.format.specs.Layout.{Layout}
 use Rattle.format.specs.Header.{read-layout}
 use Rattle.format.specs.File.{read-all}
 use Rattle.format.specs.Reply.{emptied, keeps-work, header-left, header-call, check-left, check-call}
-use Rattle.format.proofs.Refuses.{Refuses, Within}
-use Rattle.format.proofs.FileLaws.{bodies-are-bytes}
-use Rattle.format.proofs.CallRefusals.{all-refusals}
 use Rattle.places.specs.Located.{HasLayout}
 use Rattle.places.proofs.FromReply.{reply-accepted, reply-refused}
 use Rattle.record.specs.declared.RecordReply.{RecordReply}
 use Rattle.record.specs.declared.RecordReply.the-variants as of
 use Rattle.record.specs.Recorded.{record-left}
 use Rattle.reader.specs.Rows.{HasRow, all-checked}
-use Rattle.extents.proofs.AcceptedLaws.{obeys, written}
-use Rattle.reader.proofs.Replies.{row-of, reply-of, WasRead, was-accepted, was-refused}
-use Rattle.reader.proofs.WorkLaws.{header-keeps, record-clears}
+use Rattle.reader.proofs.Replies.{row-of, reply-of, WasRead, was-accepted}
+use Rattle.reader.proofs.WorkLaws.{header-keeps, check-clears}
 
 same-summary : (m v s f m₁ v₁ s₁ f₁ : ℕ) (w w₁ : List ℕ) → m ≡ m₁ → v ≡ v₁ → s ≡ s₁ → f ≡ f₁ → w ≡ w₁
     → check-left (Accepted m₁ v₁ s₁ f₁) w ≡ check-left (Accepted m v s f) w₁
@@ -66,11 +61,8 @@ module _ (bs work : List ℕ) (y : Bytes bs) (r : HeaderReply) (e : header-left 
 
         pub records-refused : (number place : ℕ) → got ≡ of.Refused number place → check-left (Refused number place) work₁ ≡ check-call 65536 bs work
         records-refused number place s =
-            let l : Layout = has .layout in
-            let n : read-all 65536 l ≡ refuse number place = was-refused (List Body) (read-all 65536 l) number place (sym (ap reply-of found) ∙ s) in
-            let all : Refuses (Within 12 18) (read-all 65536 l)
-            = all-refusals 65536 l (lit< tt) (obeys bs y l (has .accepted)) (bodies-are-bytes 65536 bs l y (written bs y l (has .accepted))) in
-            ap (check-left (Refused number place)) (ap row-of found) ∙ refused-call number place n (record-clears number (subst (Refuses (Within 12 18)) n all))
+            let x = check-clears bs y (has .layout) (has .accepted) got work work₁ found number place s in
+            ap (check-left (Refused number place)) (ap row-of found) ∙ refused-call number place (x .0) (x .1)
 
         -- all accepted
         accepted-call : WasRead (List Body) (read-all 65536 (has .layout))
