@@ -1,6 +1,7 @@
 """Compares the built programs with the independent program.
 
-    python3 compare.py                 the committed cases, the real files, the listing, document 01's examples, fresh cases from new seeds for a minute
+    python3 compare.py                 the committed cases, the real files, the listing, input that ends badly, document 01's examples, fresh cases from new
+                                       seeds for a minute
     python3 compare.py --seed S        the same with the fresh cases of seed S alone, to run a failure again
     python3 compare.py --minutes N     fresh cases for about N minutes, seed after seed
 
@@ -12,23 +13,25 @@ import random
 import subprocess
 import sys
 import time
+from itertools import chain
 from pathlib import Path
 
 import pgen_reference as reference
-from pgen_cases import READ, Case
+from pgen_cases import HEADER, READ, ROWS, Case
 from pgen_limit_cases import limit_cases
-from probe_cases import all_cases, fresh_cases, input_bytes, line_of, reply_to
-from program_laws import check_examples, check_flips
+from pgen_row_cases import GREATEST_STEPS, limit_walks
+from probe_cases import BAD_ENDS, all_cases, fresh_cases, input_bytes, line_of, reply_to
+from program_laws import FILE_A, check_examples, check_flips, check_rows, row_parts
 
 HERE = Path(__file__).resolve().parent
 ROOT = HERE.parent
-COMMITTED_SEED, COMMITTED_CASES = 1, 2500
+COMMITTED = {"seed": 1, "count": 2500, "rows": 250}
 FRESH_CASES = 1500
 
 
-def run(name, data):
-    """What a built program writes for an input."""
-    done = subprocess.run([str(ROOT / "tools" / "run"), name], input=data, stdout=subprocess.PIPE, check=True)
+def run(name, data, check=True):
+    """What a built program writes for an input; it must end well unless that is not to be checked."""
+    done = subprocess.run([str(ROOT / "tools" / "run"), name], input=data, stdout=subprocess.PIPE, check=check)
     return done.stdout
 
 
@@ -66,7 +69,7 @@ class Tally:
 
 def committed(tally):
     """The committed cases are what the generator makes (the gate itself runs them)."""
-    data, want = joined(all_cases(COMMITTED_SEED, COMMITTED_CASES))
+    data, want = joined(all_cases(**COMMITTED))
     folder = ROOT / "crates" / "probe"
     tally.same("crates/probe/stdin", (folder / "stdin").read_bytes(), data)
     tally.same("crates/probe/stdout", (folder / "stdout").read_bytes(), want)
@@ -80,6 +83,9 @@ def real_file(tally, path):
     data = b"".join(input_bytes(Case(READ, v, 0, file, b"", samples, samples)) for v in range(len(rows)))
     want = "".join(f"0 0 o {bytes(map(int, row)).hex()} w {bytes(samples).hex()}\n" for row in rows).encode()
     tally.same(f"real/{path.name}", run("probe", data), want, len(rows))
+    walked = [bytes(map(int, row)) for row in rows[:GREATEST_STEPS]]
+    line = run("probe", input_bytes(Case(ROWS, len(walked), 0, file, b"", samples, samples)))
+    tally.same(f"rows of real/{path.name}", line.partition(b" w ")[0], row_parts((0, 0, row) for row in walked).encode(), len(walked))
     tally.same(f"listing of real/{path.name}", run("pgenlist", file), reference.listing(file).encode())
 
 
@@ -104,9 +110,21 @@ def listings(tally):
         tally.same(f"listing of {len(data)} bytes", run("pgenlist", data), reference.listing(data).encode())
 
 
+def bad_ends(tally):
+    """After a head that is not allowed the run ends: `bad case` is its last line, and a case behind it gets none."""
+    case = Case(HEADER, first=FILE_A)
+    good, line = input_bytes(case), line_of(*reply_to(case)) + "\n"
+    for name, head in BAD_ENDS.items():
+        behind, last = (good, "bad case\n") if head else (b"", "")
+        if name.startswith("cut"):
+            behind = b""
+        tally.same(f"a bad end: {name}", run("probe", good + head + behind, False), (line + last).encode())
+
+
 def fresh_limits(tally, seed):
-    """Document 01's "Tested only" cases, with other files for each seed: they are large, so a run makes them once."""
-    cases = list(limit_cases(random.Random(seed)))
+    """Document 01's "Tested only" cases and the limits of rows, with other files for each seed: they are large, so a run makes them once."""
+    rng = random.Random(seed)
+    cases = list(chain(limit_cases(rng), limit_walks(rng)))
     data, want = joined(cases)
     tally.same(f"tested only, seed {seed}", run("probe", data), want, len(cases))
 
@@ -116,11 +134,12 @@ def fresh(tally, seed):
     data, want = joined(fresh_cases(seed, FRESH_CASES))
     tally.same(f"fresh cases of seed {seed}", run("probe", data), want, FRESH_CASES)
     check_flips(tally, run, seed)
+    check_rows(tally, run, seed)
 
 
 def write_committed():
     """Writes the cases that the gate runs."""
-    data, want = joined(all_cases(COMMITTED_SEED, COMMITTED_CASES))
+    data, want = joined(all_cases(**COMMITTED))
     (ROOT / "crates" / "probe" / "stdin").write_bytes(data)
     (ROOT / "crates" / "probe" / "stdout").write_bytes(want)
 
@@ -139,6 +158,7 @@ def main():
     committed(tally)
     real_files(tally)
     listings(tally)
+    bad_ends(tally)
     check_examples(tally, run)
     end = time.monotonic() + 60 * words.minutes
     first = seed = time.time_ns() % 10**9 if words.seed is None else words.seed

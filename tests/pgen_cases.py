@@ -1,15 +1,16 @@
-"""Cases for the seven calls: valid and damaged files, and arguments in and out of range."""
+"""Cases for the seven calls of document 01: valid and damaged files, and arguments in and out of range."""
 
 from typing import NamedTuple
 
 from pgen_generate import choose_categories, choose_count, choose_samples, random_file, tiny_file
-from pgen_header_damage import HEADER_FAULTS
+from pgen_header_damage import HEADER_FAULTS, faulted
 from pgen_parts import join_file
 from pgen_record import PAIRS, exchange
 from pgen_record_damage import RECORD_FAULTS
 from pgen_reference import write_record
 
 HEADER, WHOLE_FILE, READ, LOOKUP, VIEW, WRITE, FLIP = range(1, 8)
+ROWS = 23
 FILE_CALLS = [HEADER, WHOLE_FILE, READ, LOOKUP, VIEW, FLIP]
 GREATEST_OUTPUT = 131072
 WRITER_N = [0, 1, 1, 2, 3, 4, 5, 7, 8, 9, 63, 64, 65, 127, 128, 129, 255, 256, 257, 300]
@@ -59,12 +60,8 @@ def record_fault_subject(rng, fault):
 
 def header_fault_subject(rng, fault):
     """A file with a fault in its header, or anywhere."""
-    while True:
-        parts = random_file(rng, N=rng.choice([1, 3, 4, 5, 9, 64, 255, 257]))
-        joined, marks = join_file(parts)
-        file = bytearray(joined)
-        if fault(rng, file, marks) is not False:
-            return Subject(bytes(file), parts.M(), parts.N, rng.randrange(parts.M()), parts.types)
+    parts, _, file = faulted(rng, fault)
+    return Subject(file, parts.M(), parts.N, rng.randrange(parts.M()), parts.types)
 
 
 def far_above(rng, limit):

@@ -14,6 +14,7 @@ COUNTS = [0, 1, 2, 3, 4, 5, 8, 62, 63, 64, 65, 66, 127, 128, 129, 130, 191, 192,
 PLAIN_KINDS = [0, 1, 4, 6, 7]
 LIST_KINDS = [1, 2, 3, 4, 6, 7]
 ALL_KINDS = [0, 1, 2, 3, 4, 6, 7]
+FORMS = {0x02: [0x00, 0x40, 0x80, 0xc0], 0x10: [high << 6 | low for high in range(4) for low in range(8)]}
 
 
 def choose_N(rng):

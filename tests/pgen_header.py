@@ -40,6 +40,17 @@ def little(data):
     return int.from_bytes(data, "little")
 
 
+def length_width(form):
+    """The bytes of a record's length."""
+    return form % 4 + 1
+
+
+def type_allowed(its_type, variant):
+    """Whether a variant may have this type."""
+    leaning_first = variant % BLOCK_SIZE == 0 and its_type in LEANING_KINDS
+    return its_type <= 7 and its_type != 5 and not leaning_first
+
+
 class Block:
     """Where the parts of one block of the header stand."""
 
@@ -48,7 +59,7 @@ class Block:
         self.count = count
         self.types_start = start
         self.types_end = start + (count if form & 4 else up(count, 2))
-        self.lengths_end = self.types_end + count * (form % 4 + 1)
+        self.lengths_end = self.types_end + count * length_width(form)
         self.end = self.lengths_end + (up(count, 8) if form >> 6 == 3 else 0)
 
 
@@ -91,6 +102,11 @@ class Header:
         within = variant % BLOCK_SIZE
         return 4 * (within % 2) if self.narrow() else 0
 
+    def length_place(self, variant):
+        """The first byte of a variant's length (mode 0x10)."""
+        block = self.blocks[variant // BLOCK_SIZE]
+        return block.types_end + (variant - block.first) * length_width(self.form)
+
     def unused_bits_places(self):
         """Bytes of the header that have an unused bit set."""
         if self.mode == PLAIN_MODE:
@@ -125,12 +141,8 @@ class Header:
         """Bytes that hold a type that is not allowed."""
         if self.mode == PLAIN_MODE:
             return []
-        places = []
-        for variant, its_type in enumerate(self.types):
-            leaning_first = variant % BLOCK_SIZE == 0 and its_type in LEANING_KINDS
-            if its_type > 7 or its_type == 5 or leaning_first:
-                places.append(self.type_place(variant))
-        return places
+        return [self.type_place(variant) for variant, its_type in enumerate(self.types)
+                if not type_allowed(its_type, variant)]
 
     def find_records(self):
         """Take the lengths: record v stands from starts[v] to starts[v + 1]."""
@@ -139,7 +151,7 @@ class Header:
             self.starts = range(self.end, self.end + size * self.M + 1, size)
             return
         lengths = []
-        width = self.form % 4 + 1
+        width = length_width(self.form)
         for block in self.blocks:
             for place in range(block.types_end, block.lengths_end, width):
                 lengths.append(little(self.file[place:place + width]))

@@ -4,6 +4,9 @@ Each fault takes a random.Random, the bytes of a valid file as a bytearray and i
 marks, and changes the bytes; it gives False where this file has no such place.
 """
 
+from pgen_generate import random_file
+from pgen_parts import join_file
+
 OTHER_MODES = [0x00, 0x01, 0x03, 0x04, 0x05, 0x11, 0x12, 0x20, 0x21, 0x30, 0x82, 0xff]
 
 
@@ -172,6 +175,16 @@ def several_header_faults(rng, file, marks):
     choices = choices[first:]
     for fault in rng.sample(choices, rng.randint(1, len(choices))):
         fault(rng, file, marks)
+
+
+def faulted(rng, fault):
+    """A valid file in parts, its bytes, and its bytes with this fault."""
+    while True:
+        parts = random_file(rng, N=rng.choice([1, 3, 4, 5, 9, 64, 255, 257]))
+        joined, marks = join_file(parts)
+        file = bytearray(joined)
+        if fault(rng, file, marks) is not False:
+            return parts, joined, bytes(file)
 
 
 HEADER_FAULTS = [

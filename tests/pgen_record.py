@@ -6,7 +6,7 @@ from pgen_header import Refused, up
 
 PAIRS = {1: (0, 1), 2: (0, 2), 3: (0, 3), 5: (1, 2), 6: (1, 3), 9: (2, 3)}
 BASES = {4: 0, 6: 2, 7: 3}
-EXCHANGED = (2, 1, 0, 3)
+EXCHANGED = bytes([2, 1, 0, *range(3, 256)])
 GROUP = 64
 
 
@@ -20,8 +20,8 @@ class Record(NamedTuple):
 
 
 def exchange(categories):
-    """0 and 2 exchanged for all samples."""
-    return bytes(EXCHANGED[category] for category in categories)
+    """0 and 2 exchanged for all samples; every other byte stays."""
+    return bytes(categories).translate(EXCHANGED)
 
 
 def unpack(data, width, count):

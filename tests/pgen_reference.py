@@ -11,8 +11,8 @@ every buffer it was lent, the file and the flip set excepted where they never ch
     write_record      (refusal, place, count, output)
     flip              (refusal, place, file, work)
 
-Run as a program, it lists the file on standard input. The block size is
-pgen_header.BLOCK_SIZE.
+Going through a file row by row is in pgen_rows. Run as a program, this one lists the
+file on standard input. The block size is pgen_header.BLOCK_SIZE.
 """
 
 import sys

@@ -1,10 +1,16 @@
 """Turns cases into the probe's input bytes and the lines it must print.
 
-    python3 probe_cases.py --seed S --cases N --stdin FILE --stdout FILE [--end WAY]
+    python3 probe_cases.py --seed S --cases N [--rows R] --stdin FILE --stdout FILE [--end WAY]
 
 The cases named "Tested only" always come first, then every fault with every call, then
-random cases up to N. A summary goes to standard error. With N of at least 2,000 the
-exit status is 1 if some call did not reach some refusal number that it can give.
+random cases up to N; last R cases of rows. A summary goes to standard error. With N of at
+least 2,000 and R of at least 250 the exit status is 1 if some call, or a step of rows, did
+not reach some refusal number that it can give.
+
+A case of rows (call 23) makes x steps, at most 64, on the first string, after a start on the
+second, or on the first where the second is empty. Its line: refusal and place of the start;
+if it was accepted, for each step `s`, its refusal and place, and `o` with the output after
+it; last `w`. The output is filled once, before the start.
 """
 
 import argparse
@@ -14,16 +20,19 @@ from collections import Counter
 from itertools import chain, islice
 
 import pgen_reference as reference
-from pgen_cases import (FLIP, HEADER, LOOKUP, READ, VIEW, WHOLE_FILE, WRITE, random_case, sweep)
+from pgen_cases import FLIP, HEADER, LOOKUP, READ, ROWS, VIEW, WHOLE_FILE, WRITE, random_case, sweep
 from pgen_header import Refused, read_header
 from pgen_limit_cases import limit_cases
+from pgen_row_cases import GREATEST_STEPS, random_row_case, row_cases, row_sweep
+from pgen_rows import next_row, start_rows
 from scale_files import edge_cases
 
 OUTPUT_FILL = b"\xa5"
 WORK_FILL = b"\x5a"
+STEP = 256  # no call's number: each step of rows is counted under it
 CALLS = {
     HEADER: "header check", WHOLE_FILE: "whole-file check", READ: "read", LOOKUP: "lookup",
-    VIEW: "view", WRITE: "write a record", FLIP: "flip",
+    VIEW: "view", WRITE: "write a record", FLIP: "flip", ROWS: "rows", STEP: "step",
 }
 HEADER_REFUSALS = list(range(1, 10))
 RECORD_REFUSALS = list(range(12, 19))
@@ -35,6 +44,8 @@ POSSIBLE = {
     VIEW: HEADER_REFUSALS + [11],
     WRITE: [4, 10, 19, 20],
     FLIP: HEADER_REFUSALS + [10, 21] + RECORD_REFUSALS,
+    ROWS: HEADER_REFUSALS + [10],
+    STEP: [8, 9, 10, 11] + RECORD_REFUSALS,
 }
 LIMITS = (524288, 131072, 131072, 131072)
 BAD_ENDS = {
@@ -44,6 +55,8 @@ BAD_ENDS = {
     "over-A": bytes([1]) + bytes(16) + (524289).to_bytes(4, "little") + bytes(12),
     "over-W": bytes([2]) + bytes(28) + (131073).to_bytes(4, "little"),
     "cut-head": bytes([1]) + bytes(31),
+    "over-steps": bytes([ROWS, GREATEST_STEPS + 1]) + bytes(31),
+    "far-over-steps": bytes([ROWS]) + (1 << 32).to_bytes(8, "little") + bytes(24),
 }
 
 
@@ -54,6 +67,16 @@ def input_bytes(case):
     head = bytes([case.call]) + case.x.to_bytes(8, "little") + case.y.to_bytes(8, "little")
     head += b"".join(size.to_bytes(4, "little") for size in sizes)
     return head + case.first + case.second
+
+
+def rows_reply(case, output, work):
+    """The start's numbers; each step's under a letter of their own, with the output after it."""
+    *numbers, state = start_rows(case.second or case.first, work)
+    parts = []
+    for _ in range(case.x if state else 0):
+        *step, state, output, work = next_row(state, case.first, output, work)
+        parts += [("s", step), ("o", output)]
+    return numbers, parts + [("w", work)]
 
 
 def reply_to(case):
@@ -78,6 +101,8 @@ def reply_to(case):
         *numbers, later_output = reference.write_record(
             case.first, case.x, case.y, case.second, output)
         return numbers, [("o", later_output)]
+    if case.call == ROWS:
+        return rows_reply(case, output, work)
     *numbers, file, later = reference.flip(case.first, case.second, work)
     return numbers, [("f", file), ("w", later)]
 
@@ -86,8 +111,14 @@ def line_of(numbers, buffers):
     """The line for a reply."""
     parts = [str(number) for number in numbers]
     for letter, data in buffers:
-        parts += [letter, data.hex() or "-"]
+        parts += [letter, *([data.hex() or "-"] if isinstance(data, bytes) else map(str, data))]
     return " ".join(parts)
+
+
+def refusals_of(case, numbers, buffers):
+    """The refusal of a reply under its call, and of each step of rows."""
+    yield case.call, numbers[0]
+    yield from ((STEP, data[0]) for letter, data in buffers if letter == "s")
 
 
 def kinds_of(case):
@@ -103,19 +134,21 @@ def kinds_of(case):
     return set(header.types)
 
 
-def all_cases(seed, count):
-    """The cases, from a seed."""
+def all_cases(seed, count, rows):
+    """The cases, from a seed: so many, and then so many of rows."""
     rng = random.Random(seed)
     first = list(limit_cases(rng))
     swept = sweep(rng)
     endless = (random_case(rng) for _ in iter(int, 1))
-    return islice(chain(first, swept, endless), max(count, len(first)))
+    of_rows = row_cases(random.Random(f"rows {seed}"))
+    return chain(islice(chain(first, swept, endless), max(count, len(first))), islice(of_rows, rows))
 
 
 def fresh_cases(seed, count):
     """Every fault and every edge with every call, and then random cases: a seed's cases without those named "Tested only"."""
     rng = random.Random(f"fresh {seed}")
-    return islice(chain(sweep(rng), edge_cases(rng), (random_case(rng) for _ in iter(int, 1))), count)
+    endless = ((random_row_case if rng.random() < 0.15 else random_case)(rng) for _ in iter(int, 1))
+    return islice(chain(sweep(rng), edge_cases(rng), row_sweep(rng), endless), count)
 
 
 class Summary:
@@ -127,12 +160,13 @@ class Summary:
         self.refusals = Counter()
         self.pairs = Counter()
 
-    def add(self, case, number):
+    def add(self, case, numbers, buffers):
         """Count one case."""
-        self.calls[case.call] += 1
-        self.refusals[number] += 1
-        self.pairs[case.call, number] += 1
-        if number == 0 and case.call != HEADER:
+        for call, number in refusals_of(case, numbers, buffers):
+            self.calls[call] += 1
+            self.refusals[number] += 1
+            self.pairs[call, number] += 1
+        if numbers[0] == 0 and case.call not in (HEADER, ROWS):
             self.kinds.update(kinds_of(case))
 
     def missing(self):
@@ -145,7 +179,7 @@ class Summary:
         for call, name in CALLS.items():
             numbers = [0] + POSSIBLE[call]
             reached = " ".join(f"{number}:{self.pairs[call, number]}" for number in numbers)
-            print(f"{name}: {self.calls[call]} cases; refusals {reached}", file=out)
+            print(f"{name}: {self.calls[call]}; refusals {reached}", file=out)
         kinds = " ".join(f"{kind}:{self.kinds[kind]}" for kind in sorted(self.kinds))
         print(f"kinds in accepted calls: {kinds}", file=out)
         refusals = " ".join(f"{number}:{self.refusals[number]}" for number in range(22))
@@ -157,6 +191,7 @@ def parse_arguments():
     parser = argparse.ArgumentParser(description=__doc__.splitlines()[0])
     parser.add_argument("--seed", type=int, default=1)
     parser.add_argument("--cases", type=int, default=2000)
+    parser.add_argument("--rows", type=int, default=250)
     parser.add_argument("--stdin", required=True, help="where the probe's input goes")
     parser.add_argument("--stdout", required=True, help="where the lines go")
     parser.add_argument("--end", choices=sorted(BAD_ENDS), default="none",
@@ -169,11 +204,11 @@ def main():
     arguments = parse_arguments()
     summary = Summary()
     with open(arguments.stdin, "wb") as to_probe, open(arguments.stdout, "w") as lines:
-        for case in all_cases(arguments.seed, arguments.cases):
-            numbers, buffers = reply_to(case)
+        for case in all_cases(arguments.seed, arguments.cases, arguments.rows):
+            reply = reply_to(case)
             to_probe.write(input_bytes(case))
-            lines.write(line_of(numbers, buffers) + "\n")
-            summary.add(case, numbers[0])
+            lines.write(line_of(*reply) + "\n")
+            summary.add(case, *reply)
         if arguments.end != "none":
             to_probe.write(BAD_ENDS[arguments.end])
             lines.write("bad case\n")
@@ -181,7 +216,7 @@ def main():
     missing = summary.missing()
     for call, number in missing:
         print(f"not reached: {CALLS[call]}, refusal {number}", file=sys.stderr)
-    return 1 if missing and arguments.cases >= 2000 else 0
+    return 1 if missing and arguments.cases >= 2000 and arguments.rows >= 250 else 0
 
 
 if __name__ == "__main__":

@@ -1,15 +1,19 @@
-"""Document 01's examples and the laws of the flip, run through the built probe: what stands here is literal, not computed by the independent program."""
+"""Document 01's examples, the laws of the flip and that of the rows, run through the built probe: what stands here is literal, not computed by the
+independent program."""
 
 import random
 
-from pgen_cases import FLIP, HEADER, READ, WRITE, Case
+from pgen_cases import FLIP, HEADER, READ, ROWS, WRITE, Case, valid_subject
 from pgen_generate import random_file
 from pgen_parts import join_file
-from probe_cases import input_bytes
+from pgen_record_damage import RECORD_FAULTS
+from pgen_row_cases import GREATEST_STEPS, with_leaning_ones
+from probe_cases import OUTPUT_FILL, input_bytes
 
 FILE_A = bytes.fromhex("6c1b1003000000050000004019000000000000002004020403e40002010603010203")
 ONE_RECORD = bytes.fromhex("6c1b1001000000050000004016000000000000000105")
 FRESH_FLIPS = 60
+FRESH_WALKS = 40
 GREATEST_FILE = 100000
 
 
@@ -38,7 +42,7 @@ def one_listed(count):
 
 
 def examples():
-    """Examples (a) to (h) and (j): cases, each with its line."""
+    """Examples (a) to (h) and (j), and the rows of file A: cases, each with its line."""
     other = "c60202010403010203"
     for variant, row in enumerate(("0001020300", "0002020301", "0000030000")):
         yield Case(READ, variant, first=FILE_A, output=5, work=5), f"0 0 o {row} w {bytes(5).hex()}"
@@ -52,6 +56,8 @@ def examples():
     yield write(one_listed(256), 4, 0, "010301")
     yield write(one_listed(257), 4, 0, "01030001")
     yield Case(HEADER, first=FILE_A[:33]), "9 33 0 0 0 0"
+    yield Case(ROWS, 4, first=FILE_A, output=6, work=7), (
+        "0 0 s 0 0 o 0001020300a5 s 0 0 o 0002020301a5 s 0 0 o 0000030000a5 s 11 0 o 0000030000a5 w 00000300005a5a")
 
 
 def run_lines(run, cases):
@@ -88,3 +94,33 @@ def check_flips(tally, run, seed):
     both = flipped(run, once, second, samples)
     tally.same(f"one set and then a second, seed {seed}", b"\n".join(both), b"\n".join(flipped(run, files, just_one, samples)), FRESH_FLIPS)
     tally.same(f"twice, seed {seed}", b"\n".join(flipped(run, once, first, samples)), b"\n".join(files), FRESH_FLIPS)
+
+
+def row_parts(steps):
+    """The line of an accepted start and these steps (refusal, place, output), up to its work area."""
+    return "0 0" + "".join(f" s {number} {place} o {output.hex()}" for number, place, output in steps)
+
+
+def steps_of_reads(lines, output):
+    """Lines of reads as steps: a refused one leaves the output of the one before."""
+    for line in lines:
+        number, place, _, row = line.split()[:4]
+        output = bytes.fromhex(row) if number == "0" else output
+        yield number, place, output
+
+
+def check_rows(tally, run, seed):
+    """The v-th row of a walk is what a read of variant v gives, in valid files and in those with a fault in a record."""
+    rng = random.Random(f"rows {seed}")
+    walks, reads, subjects = [], [], []
+    for number in range(FRESH_WALKS):
+        subject = with_leaning_ones(rng, rng.choice(RECORD_FAULTS)) if number % 2 else valid_subject(rng)
+        case = Case(READ, first=subject.file, output=subject.N, work=subject.N)
+        steps = min(subject.M, GREATEST_STEPS)
+        subjects.append((subject.N, len(reads), len(reads) + steps))
+        walks.append(case._replace(call=ROWS, x=steps))
+        reads += [case._replace(x=variant) for variant in range(steps)]
+    got = [line.partition(" w ")[0] for line in run_lines(run, walks)]
+    lines = run_lines(run, reads)
+    want = [row_parts(steps_of_reads(lines[first:after], OUTPUT_FILL * N)) for N, first, after in subjects]
+    tally.same(f"rows and reads, seed {seed}", "\n".join(got).encode(), "\n".join(want).encode(), len(reads))

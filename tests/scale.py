@@ -17,7 +17,7 @@ from pathlib import Path
 
 import pgen_reference as reference
 from compare import run
-from probe_cases import CALLS, input_bytes, line_of, reply_to
+from probe_cases import CALLS, input_bytes, line_of, refusals_of, reply_to
 from scale_counts import Counts
 from scale_files import cases_of
 
@@ -27,12 +27,12 @@ SHOWN = 20
 
 
 def expected(case):
-    """The independent program's refusal and line; a fault of its own is a line that no probe prints."""
+    """The independent program's refusals, each with its call, and line; a fault of its own is a line that no probe prints."""
     try:
-        numbers, buffers = reply_to(case)
+        reply = reply_to(case)
     except Exception as fault:
-        return None, f"the independent program failed: {fault!r}"
-    return numbers[0], line_of(numbers, buffers)
+        return [(case.call, None)], f"the independent program failed: {fault!r}"
+    return list(refusals_of(case, *reply)), line_of(*reply)
 
 
 def expected_listing(file):
@@ -64,9 +64,9 @@ class Portion:
         self.counts.file(name, file)
         for case in cases:
             self.data += input_bytes(case)
-            refusal, line = expected(case)
+            refusals, line = expected(case)
             self.asked.append((number, case.call, line))
-            self.counts.call(case, refusal)
+            self.counts.call(case, refusals)
         if number % LISTING_EVERY == 0:
             want = expected_listing(file)
             self.counts.listing(want)

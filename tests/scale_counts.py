@@ -2,16 +2,18 @@
 
 from collections import Counter
 
-from pgen_cases import FLIP, LOOKUP, READ, WRITE
+from pgen_cases import FLIP, LOOKUP, READ, ROWS, WRITE
+from pgen_generate import FORMS
 from pgen_header import BLOCK_SIZE, LEANING_KINDS, Refused, read_header
-from probe_cases import CALLS, POSSIBLE
+from probe_cases import CALLS, POSSIBLE, RECORD_REFUSALS
 
 KINDS = [0, 1, 2, 3, 4, 6, 7]
 REFUSALS = range(22)
-FORMS = {0x02: [0x00, 0x40, 0x80, 0xc0], 0x10: [high << 6 | low for high in range(4) for low in range(8)]}
 MEMBERSHIPS = [(member, anchor_member) for member in (False, True) for anchor_member in (False, True)]
 LIMITS_OF_N = (1, 4, 5, 63, 64, 65, 255, 256, 257, 300, 65535, 65536)
 LIST_REFUSALS = [12, 13, 15, 16, 17, 18]
+USES = {"read": "reads and lookups accepted", "refused": "refused in a record", "flipped": "records flipped", "written": "records written",
+        "row": "rows of walks"}
 
 
 class Counts:
@@ -44,14 +46,30 @@ class Counts:
         if header.M >= BLOCK_SIZE - 1:
             self.of["M", header.M] += 1
 
-    def call(self, case, number):
-        """A call and its refusal number."""
-        self.of["call", case.call, number] += 1
+    def call(self, case, refusals):
+        """A call with its refusal number; of rows, the start's and each step's."""
+        for call, number in refusals:
+            self.of["call", call, number] += 1
+        number = refusals[0][1]
         if case.call == WRITE:
             if number == 0:
                 self.of["kind", "written", case.x] += 1
         elif self.header is not None and number is not None and number not in range(1, 12):
             self.kinds(case, number)
+            if case.call == ROWS and not case.second and case.first == self.header.file:
+                self.walked([number for _, number in refusals[1:]])
+
+    def walked(self, numbers):
+        """The kinds of the rows of a walk, and how often a refused anchor's number was given again for a record that leans on it."""
+        anchor = 0
+        for kind, number in zip(self.header.types, numbers):
+            if number in range(1, 12):
+                return
+            self.of["kind", "row", kind] += number == 0
+            if kind not in LEANING_KINDS:
+                anchor = number
+            elif anchor:
+                self.of["again", anchor] += 1
 
     def kinds(self, case, number):
         """The kinds that a call concerned: of the variant asked for, or of all that were flipped."""
@@ -99,13 +117,14 @@ class Counts:
     def wanted(self):
         """What must be reached beside the refusals of each call."""
         for kind in KINDS:
-            yield from (("kind", what, kind) for what in ("read", "refused", "flipped", "written"))
+            yield from (("kind", what, kind) for what in USES)
             its_own = [12, 13, 18] if kind == 0 else LIST_REFUSALS + [14] * (kind == 1)
             yield from (("kind and refusal", kind, number) for number in its_own)
         for kind in LEANING_KINDS:
             yield from (("leaning", kind, *members) for members in MEMBERSHIPS)
         for mode, forms in FORMS.items():
             yield from (("mode and form", mode, form) for form in forms)
+        yield from (("again", number) for number in RECORD_REFUSALS)
         yield from (("listing", what) for what in ("accepted", "refused", "too large"))
 
     def table(self, distinct):
@@ -132,16 +151,15 @@ class Counts:
         return "\n".join(["calls by refusal number:"] + lines)
 
     def record_kinds(self):
-        """A row for each kind: reads and lookups accepted and refused, records flipped and written."""
-        names = ("read", "refused", "flipped", "written")
-        lines = ["| Kind | reads and lookups accepted | refused in a record | records flipped | records written |", "|---|---|---|---|---|"]
+        """A row for each kind: reads and lookups accepted and refused, records flipped and written, rows of walks."""
+        lines = ["| Kind | " + " | ".join(USES.values()) + " |", "|---" * (len(USES) + 1) + "|"]
         for kind in KINDS:
-            lines.append(f"| {kind} | " + " | ".join(str(self.of["kind", name, kind]) for name in names) + " |")
-        return "\n".join(["kinds:"] + lines)
+            lines.append(f"| {kind} | " + " | ".join(str(self.of["kind", name, kind]) for name in USES) + " |")
+        return "\n".join(["kinds:"] + lines + [f"an anchor's refusal given again in a walk: {self.line('again')}"])
 
     def kind_refusals(self):
         """A row for each kind, a column for each refusal of a record (of the variant asked for or of its anchor)."""
-        numbers = range(12, 19)
+        numbers = RECORD_REFUSALS
         lines = ["| Kind | " + " | ".join(map(str, numbers)) + " |", "|---" * 8 + "|"]
         for kind in KINDS:
             lines.append(f"| {kind} | " + " | ".join(str(self.of["kind and refusal", kind, number]) for number in numbers) + " |")

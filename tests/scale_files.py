@@ -11,6 +11,7 @@ from pgen_header_damage import HEADER_FAULTS, changed_anywhere, offset_wrong, pu
 from pgen_parts import join_file
 from pgen_record import PAIRS
 from pgen_record_damage import RECORD_FAULTS, any_step, with_list
+from pgen_row_cases import rows_on
 
 MANY_VARIANTS_EVERY = 1000
 MANY_SAMPLES_EVERY = 500
@@ -96,6 +97,8 @@ def edge_cases(rng):
             subject = family(rng)
             case = file_case(rng, call, subject)
             yield case._replace(x=subject.variant) if call in (READ, LOOKUP) else case
+    for _, family in FAMILIES:
+        yield rows_on(rng, family(rng))
 
 
 FAMILIES = [("a record and the header", record_and_header_fault), ("a plink2 file changed", real_changed), ("a varint at an edge", edge_varint),
@@ -130,9 +133,10 @@ def long_writer_case(rng):
 
 
 def cases_of(seed, number):
-    """File `number` of a seed: the name of its damage, and its cases: each call on it, and a record to be written."""
+    """File `number` of a seed: the name of its damage, and its cases: each call on it, a record to be written, and rows."""
     rng = random.Random(f"{seed}/{number}")
     name, subject = chosen(rng, number)
     cases = [with_argument_faults(rng, file_case(rng, call, subject), subject) for call in FILE_CALLS]
     cases.append(long_writer_case(rng) if number % LONG_WRITER_EVERY == 2 else random_writer_case(rng))
+    cases.append(rows_on(rng, subject))
     return name, cases

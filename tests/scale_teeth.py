@@ -2,7 +2,7 @@
 
     python3 tests/scale_teeth.py [--files 800] [--seed 1] [--only WORDS]
 
-Each line is one wrong rule: how many calls then disagree, and in which file first. The exit status is 1 if one of them is not seen.
+Each line is one wrong rule: how many cases then disagree, and in which file first. The exit status is 1 if one of them is not seen.
 """
 
 import argparse
@@ -14,7 +14,8 @@ import tempfile
 from pathlib import Path
 
 ROOT = Path(__file__).resolve().parent.parent
-HEADER, RECORD, CALLS = "pgen_header.py", "pgen_record.py", "pgen_reference.py"
+HEADER, RECORD, CALLS, ROWS = "pgen_header.py", "pgen_record.py", "pgen_reference.py", "pgen_rows.py"
+CASES_OF_A_FILE = 8
 # what is wrong; the file; the text; what stands for it; whether it shows in files of more than one block only
 WRONG = [
     ("N = 256 uses two-byte numbers", RECORD, "return 1 if N <= 256", "return 1 if N <= 255", False),
@@ -65,6 +66,22 @@ WRONG = [
     ("the writer looks at the anchor first", CALLS, "for buffer in (categories, anchor):", "for buffer in (anchor, categories):", False),
     ("the writer takes any anchor in other kinds", CALLS, "if len(anchor) != (N if kind in LEANING_KINDS else 0):",
      "if kind in LEANING_KINDS and len(anchor) != N:", False),
+    ("a step looks at the header of its file", ROWS,
+     "        refuse_state(rows, output, work)\n", "        refuse_state(rows, output, work)\n        header_for(file, [])\n", False),
+    ("a step takes a type of 4 bits whole", ROWS, "if header.narrow():", "if False:", False),
+    ("a step gives 9 before 8", ROWS, "if not type_allowed(its_type, rows.variant):",
+     "if rows.start <= len(file) and not type_allowed(its_type, rows.variant):", False),
+    ("a step's record may not end at the file's end", ROWS, "if rows.start + length > len(file):", "if rows.start + length >= len(file):", False),
+    ("a step's record starts beyond the file's end", ROWS, "if rows.start + length > len(file):", "if rows.start <= len(file) < rows.start + length:", False),
+    ("a refused record is tried again", ROWS, "return refused.number, refused.place, later, output, work",
+     "return refused.number, refused.place, rows, output, work", False),
+    ("the refusal of an anchor is forgotten", ROWS, "if leaning and rows.refusal:", "if False:", False),
+    ("the refusal of an anchor stays after the next anchor", ROWS, "later = later._replace(refusal=0, place=0)", "later = later", False),
+    ("a refused leaning record is remembered", ROWS, "        if not leaning:\n            later = later._replace(refusal=refused.number",
+     "        if True:\n            later = later._replace(refusal=refused.number", False),
+    ("a refused record leaves the work area", ROWS, "work = cleared(work, rows.N)", "work = work", False),
+    ("a leaning row is an anchor's", ROWS, "    if not leaning:\n        later = later._replace(refusal=0",
+     "    if True:\n        later = later._replace(refusal=0", False),
 ]
 
 
@@ -110,7 +127,7 @@ def main():
         count, first = seen(name, old, new, blocks, words.files, words.seed)
         missed += count == 0
         where = f"first in file {first[0]}, {first[1]}" if first else "NOT SEEN"
-        print(f"{what}: {count} of {7 * words.files} calls disagree, {where}", flush=True)
+        print(f"{what}: {count} of {CASES_OF_A_FILE * words.files} cases disagree, {where}", flush=True)
     print(f"{len(chosen) - missed} passed, {missed} failed")
     return 1 if missed else 0
 

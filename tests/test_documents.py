@@ -7,6 +7,8 @@ ROOT = Path(__file__).resolve().parent.parent
 DOCUMENTS = sorted([ROOT / "README.md", *(ROOT / "docs").glob("*.md"), *(ROOT / "tests").rglob("*.md")])
 # Documents that name definitions and theorems. The others speak of plink2's options too, which look alike.
 OF_NAMES = ("THEOREMS.md", "SCOPE-TRACE.md", "DECISIONS.md", "ARCHITECTURE.md")
+# What the prover asks of a function. It gives these names itself; no source has them.
+NEED = r"returns-\d+|loop-holds|loop-again|[a-z0-9-]+-requires"
 
 
 def spans(document):
@@ -42,13 +44,13 @@ class Documents(unittest.TestCase):
         folders = {f.name for f in ROOT.iterdir() if f.is_dir()} | {"target"}
         for document in DOCUMENTS:
             for span in spans(document):
-                if re.fullmatch(r"[a-z]+/[a-z0-9_]+", span) and span.split("/")[0] not in folders:
+                if re.fullmatch(r"[a-z][a-z_]*/[a-z0-9_]+", span) and span.split("/")[0] not in folders:
                     self.assertTrue(span in edits(), f"{document.name}: {span}")
 
     def test_laws_are_there(self):
         for document in DOCUMENTS:
             for span in spans(document):
-                if re.fullmatch(r"[a-z]+/[A-Z]\w+", span) and not span.startswith(("specs/", "proofs/")):
+                if re.fullmatch(r"[a-z][a-z_]*/[A-Z]\w+", span) and not span.startswith(("specs/", "proofs/")):
                     crate, module = span.split("/")
                     self.assertTrue((ROOT / "crates" / crate / "proofs" / f"{module}.antt").exists(), f"{document.name}: {span}")
 
@@ -82,7 +84,7 @@ class Documents(unittest.TestCase):
         for document in DOCUMENTS:
             if document.name in OF_NAMES:
                 for span in spans(document):
-                    if re.fullmatch(r"[a-z][a-z0-9]*(-[a-z0-9]+)+", span):
+                    if re.fullmatch(r"[a-z][a-z0-9]*(-[a-z0-9]+)+", span) and not re.fullmatch(NEED, span):
                         self.assertTrue(span in words, f"{document.name}: {span}")
 
 

@@ -5,6 +5,7 @@ import unittest
 
 import probe_cases
 from pgen_cases import READ, Case, random_case
+from pgen_row_cases import random_row_case
 from test_reference import A
 
 
@@ -40,24 +41,37 @@ class Form(unittest.TestCase):
             Case(7, first=A, second=b"\2", work=5):
                 "0 0 f " + A[:20].hex() + "30" + A[21:].hex() + " w 0000000000",
             Case(7, first=A, second=b"\x08", work=5): "21 0 f " + A.hex() + " w 5a5a5a5a5a",
+            Case(23, x=4, first=A, output=6, work=7):
+                "0 0 s 0 0 o 0001020300a5 s 0 0 o 0002020301a5 s 0 0 o 0000030000a5 s 11 0 o 0000030000a5"
+                " w 00000300005a5a",
+            Case(23, first=A, work=5): "0 0 w 5a5a5a5a5a",
+            Case(23, x=2, first=A, work=5): "0 0 s 10 0 o - s 10 0 o - w 5a5a5a5a5a",
+            Case(23, x=2, first=A[:33], output=5, work=2): "9 33 w 5a5a",
+            Case(23, x=2, first=A, output=5): "10 0 w -",
+            Case(23, x=3, first=A[:30], second=A, output=5, work=5):
+                "0 0 s 0 0 o 0001020300 s 9 30 o 0001020300 s 9 30 o 0001020300 w 0001020300",
+            Case(23, x=1, first=A[:20] + b"\2" + A[21:], second=A, output=5, work=5):
+                "0 0 s 8 20 o a5a5a5a5a5 w 5a5a5a5a5a",
+            Case(23, x=1, first=A, second=A[:11], output=5, work=5): "1 11 w 5a5a5a5a5a",
         }
         for case, line in expected.items():
             self.assertEqual(probe_cases.line_of(*probe_cases.reply_to(case)), line)
 
     def test_input(self):
         rng = random.Random(9)
-        for _ in range(200):
-            case = random_case(rng)
+        for _ in range(300):
+            case = rng.choice([random_case, random_case, random_row_case])(rng)
             self.assertEqual(taken_apart(probe_cases.input_bytes(case)), case)
             used = {1: "", 2: "work", 3: "x output work", 4: "x y work", 5: "x",
-                    6: "x y second output", 7: "second work"}[case.call].split()
+                    6: "x y second output", 7: "second work", 23: "x second output work"}[case.call].split()
             for name in ("x", "y", "second", "output", "work"):
                 if name not in used:
                     self.assertFalse(getattr(case, name), case)
 
     def test_same_seed_same_cases(self):
-        one, other = ([random_case(rng) for _ in range(30)] for rng in map(random.Random, (4, 4)))
-        self.assertEqual(one, other)
+        for any_case in (random_case, random_row_case):
+            one, other = ([any_case(rng) for _ in range(30)] for rng in map(random.Random, (4, 4)))
+            self.assertEqual(one, other)
 
 
 if __name__ == "__main__":

@@ -6,6 +6,7 @@ import scale
 from probe_cases import POSSIBLE
 from scale_counts import Counts
 from scale_files import cases_of
+from scale_teeth import CASES_OF_A_FILE, ROOT, WRONG
 
 NUMBERS = range(3, 12)
 
@@ -25,7 +26,8 @@ class Scale(unittest.TestCase):
         self.assertEqual(self.disagreements(list), [])
 
     def test_a_wrong_line(self):
-        reports = self.disagreements(lambda lines: lines[:7] + ["0 1 16 1 1 0"] + lines[8:])
+        second = CASES_OF_A_FILE
+        reports = self.disagreements(lambda lines: lines[:second] + ["0 1 16 1 1 0"] + lines[second + 1:])
         self.assertEqual([(number, what) for number, what, _, _ in reports], [(4, "header check")])
 
     def test_a_missing_line(self):
@@ -35,6 +37,11 @@ class Scale(unittest.TestCase):
         for number in NUMBERS:
             self.assertEqual(cases_of(5, number), cases_of(5, number))
         self.assertNotEqual(cases_of(5, 3), cases_of(6, 3))
+
+    def test_every_wrong_rule_can_be_put_in(self):
+        for what, name, old, new, _ in WRONG:
+            self.assertEqual((ROOT / "tests" / name).read_text().count(old), 1, what)
+            self.assertNotEqual(old, new)
 
     def test_what_is_not_reached_is_told(self):
         counts = Counts()

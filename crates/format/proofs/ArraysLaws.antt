@@ -1,6 +1,6 @@
--- The fixed fields with rules 2 to 5, and the header's arrays: lengths, read back, as written.
+-- The fixed fields with rules 2 to 5, and the header's arrays: lengths, read back, as written; where the header ends.
 -- Assumes nothing.
-use mathlib.Core.Path.{_≡_, refl, sym, ap, _∙_}
+use mathlib.Core.Path.{_≡_, refl, ap, _∙_}
 use Prim.Native.Nat.{ℕ, zero, _^_, _<_}
 use mathlib.Core.Bool.{Bool, true, false}
 use mathlib.Core.List.{List, [], _++_, append-assoc}
@@ -8,15 +8,21 @@ use lib.ListN.{length, length-append}
 use lib.Dec.{eqb}
 use native.Mathlib.Omega.{arith}
 use borrow.Author.Tests.{eqb-true, eq-eqb}
-use Rattle.format.specs.Base.{Below, Bytes, Out, ok}
+use Rattle.format.specs.Base.{Bytes, Out, ok, bind}
+use Rattle.format.specs.Limits.{most-samples, most-variants}
 use Rattle.format.specs.Numbers.{number-bytes, read-number, numbers-bytes, read-numbers}
 use Rattle.format.specs.Packed.{one, read-packed}
-use Rattle.format.specs.Layout.{Fixed, fixed-bytes, most-samples, most-variants, from-1-to, plain-mode, mode-covered, form-allowed, form-of, flag-count, Columns, Arrays, sum, block-count, block-sizes, blocks-bytes, blocked-bytes, arrays-bytes, blocked-size, arrays-size, FixedObeys, ColumnsFit, ColumnsPlain, ColumnsObey}
-use Rattle.format.specs.Header.{read-fixed, need-fixed, read-blocks, read-blocked, plain-arrays, read-arrays}
-use Rattle.format.proofs.Rules.{Holds, by-test, by-need, by-bind, by-map, below-after}
-use Rattle.format.proofs.NumbersLaws.{IsNumber, number-read-back, number-as-written, number-length, AreNumbers, numbers-read-back, numbers-as-written, numbers-length}
+use Rattle.format.specs.Layout.{Fixed, fixed-bytes, from-1-to, unblocked, mode-covered, form-allowed, form-of, flag-count, Arrays, sum}
+use Rattle.format.specs.Layout.{block-count, block-sizes, blocks-bytes, blocked-bytes, arrays-bytes, blocked-size, arrays-size, FixedObeys}
+use Rattle.format.specs.Layout.{ColumnsUnblocked, ColumnsObey, header-end, header-bytes, in-parts}
+unfoldable pub use Rattle.format.specs.Layout.{OffsetsFit, AllFit}
+use Rattle.format.specs.Header.{read-fixed, need-fixed, read-blocks, read-blocked, unblocked-arrays, read-arrays}
+use Rattle.format.proofs.Rules.{Holds, by-test, need-then, by-need, by-bind, by-map, below-after}
+use Rattle.format.proofs.NumbersLaws.{IsNumber, number-read-back, number-as-written, number-length, AreNumbers, numbers-read-back, numbers-as-written}
+use Rattle.format.proofs.NumbersLaws.{numbers-length}
 use Rattle.format.proofs.PackedLaws.{ArePacked, packed-read-back, packed-as-written, packed-length}
-use Rattle.format.proofs.BlocksLaws.{sizes-sum, blocks-length, no-element, blocks-read-back, AreBlocks, blocks-as-written}
+use Rattle.format.proofs.ColumnsLaws.{no-element}
+use Rattle.format.proofs.BlocksLaws.{sizes-sum, blocks-length, blocks-read-back, AreBlocks, blocks-as-written}
 
 -- ---- the first twelve bytes
 
@@ -68,23 +74,21 @@ pub fixed-pass : {A : Type 0} (f : Fixed) (next : Out A) → FixedObeys f → ne
 unfolding need-fixed
 fixed-pass f next h = simp (eq-eqb _ _ (h .magic), h .mode, h .variants, h .samples, h .form)
 
+-- what follows them all may be said within them
+pub fixed-then : {A B : Type 0} (f : Fixed) (m : Out A) (next : A → List ℕ → Out B) → bind (need-fixed f m) next ≡ need-fixed f (bind m next)
+unfolding need-fixed
+fixed-then f m next = simp need-then
+
 -- ---- the arrays
-
--- the offsets fit: one of eight bytes for each block, none in mode 0x02
-abbrev pub OffsetsFit : ℕ → Fixed → List ℕ → Type 0
-OffsetsFit K f offsets = (length offsets ≡ block-count K f) × Below (256 ^ 8) offsets
-
--- the columns of a whole file in mode 0x10
-abbrev pub AllFit : Fixed → Columns → Type 0
-AllFit f c = ColumnsFit (form-of f) (f .variants) (c .types) (c .lengths) (c .flags)
 
 pub record AreArrays (K : ℕ) (f : Fixed) (bs : List ℕ) (a : Arrays) (left : List ℕ) : Type 0 where
   pub written : bs ≡ arrays-bytes K f a ++ left
   pub offsets : OffsetsFit K f (a .offsets)
   pub columns : ColumnsObey f (a .columns)
 
--- mode 0x10: offsets and columns that were read fit, and are what was written
-blocked-as-written : (K end : ℕ) (f : Fixed) (bs : List ℕ) → zero < K → Bytes bs → plain-mode f ≡ false → Holds (AreArrays K f bs) (read-blocked K end f bs)
+-- blocks: offsets and columns that were read fit, and are what was written
+blocked-as-written : (K end : ℕ) (f : Fixed) (bs : List ℕ) → zero < K → Bytes bs → unblocked (f .mode) ≡ false
+    → Holds (AreArrays K f bs) (read-blocked K end f bs)
 unfolding read-blocked blocked-bytes arrays-bytes
 blocked-as-written K end f bs p y t =
     by-bind (AreNumbers 8 (block-count K f) bs) (AreArrays K f bs) (read-numbers end 8 (block-count K f) bs) _
@@ -100,20 +104,20 @@ blocked-as-written K end f bs p y t =
 
 -- arrays that were read fit, and are what was written
 pub arrays-as-written : (K end : ℕ) (f : Fixed) (bs : List ℕ) → zero < K → Bytes bs → Holds (AreArrays K f bs) (read-arrays K end f bs)
-unfolding read-arrays arrays-bytes plain-arrays block-count
+unfolding read-arrays arrays-bytes unblocked-arrays block-count
 arrays-as-written K end f bs p y =
     let n : ℕ = flag-count (form-of f) (f .variants) in
-    by-test (Holds (AreArrays K f bs)) (plain-mode f)
+    by-test (Holds (AreArrays K f bs)) (unblocked (f .mode))
     (λ t.
     by-map (ArePacked one n bs) (AreArrays K f bs) (read-packed end one n bs) _ (packed-as-written end one n bs y) (λ flags left h.
     record {
       written = simp t (h .written);
       offsets = simp t (refl, tt);
-      columns = simp t (record { types-zero = refl; lengths-same = refl; flags-count = h .count; flags-small = h .small });
+      columns = simp t (record { types-same = refl; lengths-same = refl; flags-count = h .count; flags-small = h .small });
     }))
     (λ t. blocked-as-written K end f bs p y t)
 
--- mode 0x10: the length of the arrays
+-- blocks: the length of the arrays
 blocked-length : (K : ℕ) (f : Fixed) (a : Arrays) → OffsetsFit K f (a .offsets) → sum (block-sizes K f) ≡ f .variants → AllFit f (a .columns)
     → length (blocked-bytes K f a) ≡ blocked-size K f
 unfolding blocked-bytes blocked-size
@@ -123,18 +127,19 @@ blocked-length K f a h q g =
       arith,
       numbers-length 8 (a .offsets),
       h .0,
-      blocks-length (form-of f) (block-sizes K f) (a .columns .types) (a .columns .lengths) (a .columns .flags) (g .types-count ∙ sym q) (g .lengths-count ∙ sym q) (rw q (g .flags-count)),
+      blocks-length (form-of f) (block-sizes K f) (a .columns) (rw q g),
     )
 
--- mode 0x10: arrays that fit are read back
-blocked-read-back : (K end : ℕ) (f : Fixed) (a : Arrays) (left : List ℕ) → OffsetsFit K f (a .offsets) → sum (block-sizes K f) ≡ f .variants → AllFit f (a .columns)
+-- blocks: arrays that fit are read back
+blocked-read-back : (K end : ℕ) (f : Fixed) (a : Arrays) (left : List ℕ) → OffsetsFit K f (a .offsets) → sum (block-sizes K f) ≡ f .variants
+    → AllFit f (a .columns)
     → read-blocked K end f (blocked-bytes K f a ++ left) ≡ ok a left
 unfolding read-blocked blocked-bytes
 blocked-read-back K end f a left h q g =
-    let after : List ℕ = blocks-bytes (form-of f) (block-sizes K f) (a .columns .types) (a .columns .lengths) (a .columns .flags) ++ left in
+    let after : List ℕ = blocks-bytes (form-of f) (block-sizes K f) (a .columns) ++ left in
     let offsets-back : read-numbers end 8 (block-count K f) (numbers-bytes 8 (a .offsets) ++ after) ≡ ok (a .offsets) after
     = numbers-read-back end 8 (block-count K f) (a .offsets) after (h .0) (h .1) in
-    simp (append-assoc, offsets-back, blocks-read-back end (form-of f) (block-sizes K f) (a .columns .types) (a .columns .lengths) (a .columns .flags) left (rw q g))
+    simp (append-assoc, offsets-back, blocks-read-back end (form-of f) (block-sizes K f) (a .columns) left (rw q g))
 
 -- arrays put together again from equal parts
 pub same-arrays : (a : Arrays) (offsets types lengths : List ℕ) → a .offsets ≡ offsets → a .columns .types ≡ types → a .columns .lengths ≡ lengths
@@ -142,24 +147,38 @@ pub same-arrays : (a : Arrays) (offsets types lengths : List ℕ) → a .offsets
 same-arrays a offsets types lengths e₁ e₂ e₃ = rw (← e₁, ← e₂, ← e₃)
 
 -- the arrays have as many bytes as their size says
-pub arrays-length : (K : ℕ) (f : Fixed) (a : Arrays) → zero < K → OffsetsFit K f (a .offsets) → ColumnsObey f (a .columns) → length (arrays-bytes K f a) ≡ arrays-size K f
+pub arrays-length : (K : ℕ) (f : Fixed) (a : Arrays) → zero < K → OffsetsFit K f (a .offsets) → ColumnsObey f (a .columns)
+    → length (arrays-bytes K f a) ≡ arrays-size K f
 unfolding arrays-bytes arrays-size
-arrays-length K f a p h c = go (plain-mode f) refl
+arrays-length K f a p h c = go (unblocked (f .mode)) refl
   where
-    go : (b : Bool) → plain-mode f ≡ b → length (arrays-bytes K f a) ≡ arrays-size K f
-    go true e = let g : ColumnsPlain f (a .columns) = simp e at c in simp e (packed-length one _ (a .columns .flags) (g .flags-count))
+    go : (b : Bool) → unblocked (f .mode) ≡ b → length (arrays-bytes K f a) ≡ arrays-size K f
+    go true e = let g : ColumnsUnblocked f (a .columns) = simp e at c in simp e (packed-length one _ (a .columns .flags) (g .flags-count))
     go false e = simp e (blocked-length K f a h (sizes-sum K f p e) (simp e at c))
 
 -- arrays that fit are read back
 pub arrays-read-back : (K end : ℕ) (f : Fixed) (a : Arrays) (left : List ℕ) → zero < K → OffsetsFit K f (a .offsets) → ColumnsObey f (a .columns)
     → read-arrays K end f (arrays-bytes K f a ++ left) ≡ ok a left
-unfolding read-arrays arrays-bytes plain-arrays block-count
-arrays-read-back K end f a left p h c = go (plain-mode f) refl
+unfolding read-arrays arrays-bytes unblocked-arrays block-count
+arrays-read-back K end f a left p h c = go (unblocked (f .mode)) refl
   where
-    go : (b : Bool) → plain-mode f ≡ b → read-arrays K end f (arrays-bytes K f a ++ left) ≡ ok a left
+    go : (b : Bool) → unblocked (f .mode) ≡ b → read-arrays K end f (arrays-bytes K f a ++ left) ≡ ok a left
     go true e =
-        let g : ColumnsPlain f (a .columns) = simp e at c in
+        let g : ColumnsUnblocked f (a .columns) = simp e at c in
         let n : length (a .offsets) ≡ 0 = simp e at (h .0) in
         simp (e, packed-read-back end one _ (a .columns .flags) left (g .flags-count) (g .flags-small))
-        (ap (λ (z : Arrays). ok z left) (same-arrays a [] _ _ (no-element (a .offsets) n) (g .types-zero) (g .lengths-same)))
+        (ap (λ (z : Arrays). ok z left) (same-arrays a [] _ _ (no-element (a .offsets) n) (g .types-same) (g .lengths-same)))
     go false e = simp e (blocked-read-back K end f a left h (sizes-sum K f p e) (simp e at c))
+
+-- ---- the header's bytes
+
+-- the header's bytes with what stands after them
+pub header-apart : (K : ℕ) (f : Fixed) (a : Arrays) (after : List ℕ) → in-parts K f a after ≡ fixed-bytes f ++ (arrays-bytes K f a ++ after)
+unfolding in-parts header-bytes
+header-apart K f a after = append-assoc (fixed-bytes f) (arrays-bytes K f a) after
+
+-- they end where the header does
+pub header-length : (K : ℕ) (f : Fixed) (a : Arrays) → zero < K → OffsetsFit K f (a .offsets) → ColumnsObey f (a .columns)
+    → length (header-bytes K f a) ≡ header-end K f
+unfolding header-bytes
+header-length K f a p h c = length-append (fixed-bytes f) (arrays-bytes K f a) ∙ omega (arith, fixed-length f, arrays-length K f a p h c)

@@ -1,20 +1,22 @@
 -- The cut of a file's variants into blocks, and the arrays of the blocks: their lengths, read back, as written.
 -- Assumes nothing.
-use mathlib.Core.Path.{_≡_, refl, sym, ap, _∙_}
+use mathlib.Core.Path.{_≡_, refl, sym, ap, ap₂, _∙_}
 use Prim.Native.Nat.{ℕ, zero, suc, _+_, _-_, _*_, _/_, _≤_, _<_}
 use native.Mathlib.Nat.{sub-add-min-cancel, min-comm, lt-div-mul-add, suc-mul, zero-mul}
-use mathlib.Core.Bool.{Bool, true, false}
+use mathlib.Core.Bool.{false}
 use mathlib.Core.List.{List, [], _∷_, _++_, append-assoc, map}
-use lib.ListN.{length, take, drop, length-append, length-drop, take-append-drop}
-use lib.Seq.{take-at, drop-at, length-take-le}
+use lib.ListN.{length, length-append}
 use native.Mathlib.Omega.{arith}
-use Rattle.format.specs.Base.{pick, Bytes, ok}
+use Rattle.format.specs.Base.{Bytes, ok}
 use Rattle.format.specs.Numbers.{numbers-bytes, read-numbers}
 use Rattle.format.specs.Packed.{one, packed, read-packed}
-use Rattle.format.specs.Layout.{Fixed, plain-mode, Form, flag-count, Columns, sum, block-count, cut, block-sizes, block-bytes, blocks-bytes, block-size, ColumnsFit}
-use Rattle.format.specs.Header.{with-block, read-blocks}
-use Rattle.format.proofs.Rules.{Holds, by-test, by-bind, by-map, below-after, below-append, below-take, below-drop}
+use Rattle.format.specs.Layout.{Fixed, unblocked, Form, flag-count, Columns, take-columns, drop-columns, sum, block-count, cut, block-sizes}
+use Rattle.format.specs.Layout.{block-bytes, blocks-bytes, block-size, ColumnsFit}
+use Rattle.format.specs.Header.{read-block, read-blocks}
+use Rattle.format.proofs.Rules.{Holds, by-bind, by-map, below-after}
 use Rattle.format.proofs.NumbersLaws.{AreNumbers, numbers-read-back, numbers-as-written, numbers-length}
+use Rattle.format.proofs.ColumnsLaws.{no-element, flag-count-zero, columns-taken, columns-dropped, columns-joined, columns-whole, columns-first}
+use Rattle.format.proofs.ColumnsLaws.{columns-rest}
 use Rattle.format.proofs.PackedLaws.{ArePacked, packed-read-back, packed-as-written, packed-length}
 
 -- ---- the cut into blocks
@@ -32,150 +34,127 @@ unfolding cut
 cut-length K zero M = refl
 cut-length K (suc blocks) M = ap suc (cut-length K blocks (M - K))
 
--- in mode 0x10 the number of blocks is M / K, rounded up
-pub block-count-is : (K : ℕ) (f : Fixed) → plain-mode f ≡ false → block-count K f ≡ (f .variants + (K - 1)) / K
+-- where there are blocks their number is M / K, rounded up
+pub block-count-is : (K : ℕ) (f : Fixed) → unblocked (f .mode) ≡ false → block-count K f ≡ (f .variants + (K - 1)) / K
 unfolding block-count
 block-count-is K f e = simp e
 
 -- so many blocks have room for all variants
-pub blocks-hold-all : (K : ℕ) (f : Fixed) → zero < K → plain-mode f ≡ false → f .variants ≤ block-count K f * K
+pub blocks-hold-all : (K : ℕ) (f : Fixed) → zero < K → unblocked (f .mode) ≡ false → f .variants ≤ block-count K f * K
 blocks-hold-all K f p e = rw (block-count-is K f e) (omega (arith, lt-div-mul-add {a = f .variants + (K - 1)} p))
 
 -- the blocks' sizes add up to the number of variants
-pub sizes-sum : (K : ℕ) (f : Fixed) → zero < K → plain-mode f ≡ false → sum (block-sizes K f) ≡ f .variants
+pub sizes-sum : (K : ℕ) (f : Fixed) → zero < K → unblocked (f .mode) ≡ false → sum (block-sizes K f) ≡ f .variants
 sizes-sum K f p e = cut-sum K (block-count K f) (f .variants) (blocks-hold-all K f p e)
-
--- ---- flags
-
--- flags are counted block by block
-pub flag-count-add : (form : Form) (n m : ℕ) → flag-count form (n + m) ≡ flag-count form n + flag-count form m
-flag-count-add form n m = go (form .flags-stored)
-  where
-    go : (t : Bool) → pick t (n + m) 0 ≡ pick t n 0 + pick t m 0
-    go true = refl
-    go false = refl
-
--- no variants have no flags
-pub flag-count-zero : (form : Form) → flag-count form 0 ≡ 0
-flag-count-zero form = by-test (λ (n : ℕ). n ≡ 0) (form .flags-stored) (λ t. refl) (λ t. refl)
-
--- the flags of the first n variants, and those after them
-pub flags-taken : (form : Form) (n m : ℕ) (flags : List ℕ) → length flags ≡ flag-count form (n + m)
-    → length (take (flag-count form n) flags) ≡ flag-count form n
-flags-taken form n m flags e = length-take-le (flag-count form n) flags (omega (arith, flag-count-add form n m))
-
--- and those after them
-pub flags-dropped : (form : Form) (n m : ℕ) (flags : List ℕ) → length flags ≡ flag-count form (n + m)
-    → length (drop (flag-count form n) flags) ≡ flag-count form m
-flags-dropped form n m flags e = length-drop (flag-count form n) flags ∙ omega (arith, flag-count-add form n m)
 
 -- ---- lengths
 
 -- a block of n variants has as many bytes as its size says
-pub block-length : (form : Form) (n : ℕ) (types lengths flags : List ℕ) → length types ≡ n → length lengths ≡ n → length flags ≡ flag-count form n
-    → length (block-bytes form types lengths flags) ≡ block-size form n
+pub block-length : (form : Form) (n : ℕ) (c : Columns) → ColumnsFit form n c → length (block-bytes form c) ≡ block-size form n
 unfolding block-bytes block-size
-block-length form n types lengths flags i j k =
-    simp (length-append, packed-length (form .type-bits) n types i, numbers-length, j, packed-length one (flag-count form n) flags k)
+block-length form n c h =
+    simp (
+      length-append,
+      packed-length (form .type-bits) n (c .types) (h .types-count),
+      numbers-length,
+      h .lengths-count,
+      packed-length one (flag-count form n) (c .flags) (h .flags-count),
+    )
 
 -- all blocks together
-pub blocks-length : (form : Form) (ns types lengths flags : List ℕ) → length types ≡ sum ns → length lengths ≡ sum ns → length flags ≡ flag-count form (sum ns)
-    → length (blocks-bytes form ns types lengths flags) ≡ sum (map (block-size form) ns)
+pub blocks-length : (form : Form) (ns : List ℕ) (c : Columns) → ColumnsFit form (sum ns) c → length (blocks-bytes form ns c) ≡ sum (map (block-size form) ns)
 unfolding blocks-bytes sum
-blocks-length form [] types lengths flags i j k = refl
-blocks-length form (n ∷ ns) types lengths flags i j k =
-    length-append (block-bytes form (take n types) (take n lengths) (take (flag-count form n) flags)) _
+blocks-length form [] c h = refl
+blocks-length form (n ∷ ns) c h =
+    length-append (block-bytes form (take-columns n c)) (blocks-bytes form ns (drop-columns n c))
     ∙ omega (
       arith,
-      block-length form n (take n types) (take n lengths) (take (flag-count form n) flags) (length-take-le n types (omega arith)) (length-take-le n lengths (omega arith)) (flags-taken form n (sum ns) flags k),
-      blocks-length form ns (drop n types) (drop n lengths) (drop (flag-count form n) flags) (length-drop n types ∙ omega arith) (length-drop n lengths ∙ omega arith) (flags-dropped form n (sum ns) flags k),
+      block-length form n (take-columns n c) (columns-taken form n (sum ns) c h),
+      blocks-length form ns (drop-columns n c) (columns-dropped form n (sum ns) c h),
     )
 
 -- ---- read back
 
--- an empty list, by its length
-pub no-element : (xs : List ℕ) → length xs ≡ 0 → xs ≡ []
-no-element [] e = refl
-no-element (x ∷ xs) e = absurd (omega arith)
+-- the columns of a block that fit are read back
+pub block-read-back : (end : ℕ) (form : Form) (n : ℕ) (c : Columns) (left : List ℕ) → ColumnsFit form n c
+    → read-block end form n (block-bytes form c ++ left) ≡ ok c left
+unfolding read-block block-bytes
+block-read-back end form n c left h =
+    let k : ℕ = flag-count form n in
+    let left₂ : List ℕ = packed one (c .flags) ++ left in
+    let left₁ : List ℕ = numbers-bytes (form .length-width) (c .lengths) ++ left₂ in
+    let types-back : read-packed end (form .type-bits) n (packed (form .type-bits) (c .types) ++ left₁) ≡ ok (c .types) left₁
+    = packed-read-back end (form .type-bits) n (c .types) left₁ (h .types-count) (h .types-small) in
+    let lengths-back : read-numbers end (form .length-width) n left₁ ≡ ok (c .lengths) left₂
+    = numbers-read-back end (form .length-width) n (c .lengths) left₂ (h .lengths-count) (h .lengths-small) in
+    let flags-back : read-packed end one k left₂ ≡ ok (c .flags) left = packed-read-back end one k (c .flags) left (h .flags-count) (h .flags-small) in
+    simp (append-assoc, types-back, lengths-back, flags-back)
 
 -- columns that fit are read back
-pub blocks-read-back : (end : ℕ) (form : Form) (ns types lengths flags left : List ℕ) → ColumnsFit form (sum ns) types lengths flags
-    → read-blocks end form ns (blocks-bytes form ns types lengths flags ++ left) ≡ ok (record { types = types; lengths = lengths; flags = flags }) left
-unfolding read-blocks blocks-bytes block-bytes sum with-block
-blocks-read-back end form [] types lengths flags left h =
-    simp (no-element types (h .types-count), no-element lengths (h .lengths-count), no-element flags (h .flags-count ∙ flag-count-zero form))
-blocks-read-back end form (n ∷ ns) types lengths flags left h =
-    let k : ℕ = flag-count form n in
-    let after : List ℕ = blocks-bytes form ns (drop n types) (drop n lengths) (drop k flags) ++ left in
-    let left₂ : List ℕ = packed one (take k flags) ++ after in
-    let left₁ : List ℕ = numbers-bytes (form .length-width) (take n lengths) ++ left₂ in
-    let types-back : read-packed end (form .type-bits) n (packed (form .type-bits) (take n types) ++ left₁) ≡ ok (take n types) left₁
-    = packed-read-back end (form .type-bits) n (take n types) left₁ (length-take-le n types (omega (arith, h .types-count))) (below-take _ n types (h .types-small)) in
-    let lengths-back : read-numbers end (form .length-width) n left₁ ≡ ok (take n lengths) left₂
-    = numbers-read-back end (form .length-width) n (take n lengths) left₂ (length-take-le n lengths (omega (arith, h .lengths-count))) (below-take _ n lengths (h .lengths-small)) in
-    let flags-back : read-packed end one k left₂ ≡ ok (take k flags) after
-    = packed-read-back end one k (take k flags) after (flags-taken form n (sum ns) flags (h .flags-count)) (below-take 2 k flags (h .flags-small)) in
-    let rest : ColumnsFit form (sum ns) (drop n types) (drop n lengths) (drop k flags) = record {
-      types-count = length-drop n types ∙ omega (arith, h .types-count);
-      lengths-count = length-drop n lengths ∙ omega (arith, h .lengths-count);
-      flags-count = flags-dropped form n (sum ns) flags (h .flags-count);
-      types-small = below-drop _ n types (h .types-small);
-      lengths-small = below-drop _ n lengths (h .lengths-small);
-      flags-small = below-drop 2 k flags (h .flags-small);
-    } in
+pub blocks-read-back : (end : ℕ) (form : Form) (ns : List ℕ) (c : Columns) (left : List ℕ) → ColumnsFit form (sum ns) c
+    → read-blocks end form ns (blocks-bytes form ns c ++ left) ≡ ok c left
+unfolding read-blocks blocks-bytes sum
+blocks-read-back end form [] c left h =
+    rw (no-element (c .types) (h .types-count), no-element (c .lengths) (h .lengths-count), no-element (c .flags) (h .flags-count ∙ flag-count-zero form)) refl
+blocks-read-back end form (n ∷ ns) c left h =
+    let after : List ℕ = blocks-bytes form ns (drop-columns n c) ++ left in
     simp (
       append-assoc,
-      types-back,
-      lengths-back,
-      flags-back,
-      blocks-read-back end form ns (drop n types) (drop n lengths) (drop k flags) left rest,
-      take-append-drop,
-    )
+      block-read-back end form n (take-columns n c) after (columns-taken form n (sum ns) c h),
+      blocks-read-back end form ns (drop-columns n c) left (columns-dropped form n (sum ns) c h),
+    ) (ap (λ (d : Columns). ok d left) (columns-whole n c))
 
 -- ---- as written
 
+pub record AreBlock (form : Form) (n : ℕ) (bs : List ℕ) (c : Columns) (left : List ℕ) : Type 0 where
+  pub written : bs ≡ block-bytes form c ++ left
+  pub fits : ColumnsFit form n c
+
+-- the columns of a block that were read fit, and are what was written
+pub block-as-written : (end : ℕ) (form : Form) (n : ℕ) (bs : List ℕ) → Bytes bs → Holds (AreBlock form n bs) (read-block end form n bs)
+unfolding read-block block-bytes
+block-as-written end form n bs y =
+    let k : ℕ = flag-count form n in
+    by-bind (ArePacked (form .type-bits) n bs) (AreBlock form n bs) (read-packed end (form .type-bits) n bs) _
+    (packed-as-written end (form .type-bits) n bs y) (λ types left₁ h₁.
+    let y₁ : Bytes left₁ = below-after 256 (packed (form .type-bits) types) left₁ (rw (h₁ .written) at y) in
+    by-bind (AreNumbers (form .length-width) n left₁) (AreBlock form n bs) (read-numbers end (form .length-width) n left₁) _
+    (numbers-as-written end (form .length-width) n left₁ y₁) (λ lengths left₂ h₂.
+    let y₂ : Bytes left₂ = below-after 256 (numbers-bytes (form .length-width) lengths) left₂ (rw (h₂ .0) at y₁) in
+    by-map (ArePacked one k left₂) (AreBlock form n bs) (read-packed end one k left₂) _ (packed-as-written end one k left₂ y₂) (λ flags left h₃.
+    record {
+      written = simp (append-assoc, h₁ .written, h₂ .0, h₃ .written);
+      fits = record {
+        types-count = h₁ .count;
+        lengths-count = h₂ .1;
+        flags-count = h₃ .count;
+        types-small = h₁ .small;
+        lengths-small = h₂ .2;
+        flags-small = h₃ .small;
+      };
+    })))
+
 pub record AreBlocks (form : Form) (ns bs : List ℕ) (c : Columns) (left : List ℕ) : Type 0 where
-  pub written : bs ≡ blocks-bytes form ns (c .types) (c .lengths) (c .flags) ++ left
-  pub fits : ColumnsFit form (sum ns) (c .types) (c .lengths) (c .flags)
+  pub written : bs ≡ blocks-bytes form ns c ++ left
+  pub fits : ColumnsFit form (sum ns) c
 
 -- columns that were read fit, and are what was written
 pub blocks-as-written : (end : ℕ) (form : Form) (ns bs : List ℕ) → Bytes bs → Holds (AreBlocks form ns bs) (read-blocks end form ns bs)
-unfolding read-blocks blocks-bytes block-bytes sum with-block
+unfolding read-blocks blocks-bytes sum
 blocks-as-written end form [] bs y = record {
   written = refl;
   fits = record { types-count = refl; lengths-count = refl; flags-count = sym (flag-count-zero form); types-small = tt; lengths-small = tt; flags-small = tt };
 }
 blocks-as-written end form (n ∷ ns) bs y =
-    let k : ℕ = flag-count form n in
-    by-bind (ArePacked (form .type-bits) n bs) (AreBlocks form (n ∷ ns) bs) (read-packed end (form .type-bits) n bs) _
-    (packed-as-written end (form .type-bits) n bs y) (λ types left₁ h₁.
-    let y₁ : Bytes left₁ = below-after 256 (packed (form .type-bits) types) left₁ (rw (h₁ .written) at y) in
-    by-bind (AreNumbers (form .length-width) n left₁) (AreBlocks form (n ∷ ns) bs) (read-numbers end (form .length-width) n left₁) _
-    (numbers-as-written end (form .length-width) n left₁ y₁) (λ lengths left₂ h₂.
-    let y₂ : Bytes left₂ = below-after 256 (numbers-bytes (form .length-width) lengths) left₂ (rw (h₂ .0) at y₁) in
-    by-bind (ArePacked one k left₂) (AreBlocks form (n ∷ ns) bs) (read-packed end one k left₂) _ (packed-as-written end one k left₂ y₂) (λ flags left₃ h₃.
-    let y₃ : Bytes left₃ = below-after 256 (packed one flags) left₃ (rw (h₃ .written) at y₂) in
-    by-map (AreBlocks form ns left₃) (AreBlocks form (n ∷ ns) bs) (read-blocks end form ns left₃) _ (blocks-as-written end form ns left₃ y₃) (λ c left h.
+    by-bind (AreBlock form n bs) (AreBlocks form (n ∷ ns) bs) (read-block end form n bs) _ (block-as-written end form n bs y) (λ c left₁ h.
+    let y₁ : Bytes left₁ = below-after 256 (block-bytes form c) left₁ (rw (h .written) at y) in
+    by-map (AreBlocks form ns left₁) (AreBlocks form (n ∷ ns) bs) (read-blocks end form ns left₁) _ (blocks-as-written end form ns left₁ y₁) (λ d left g.
     record {
-      written = simp (
-        take-at types (c .types) n (h₁ .count),
-        drop-at types (c .types) n (h₁ .count),
-        take-at lengths (c .lengths) n (h₂ .1),
-        drop-at lengths (c .lengths) n (h₂ .1),
-        take-at flags (c .flags) k (h₃ .count),
-        drop-at flags (c .flags) k (h₃ .count),
-        append-assoc,
-        h₁ .written,
-        h₂ .0,
-        h₃ .written,
-        h .written,
-      );
-      fits = record {
-        types-count = length-append types (c .types) ∙ omega (arith, h₁ .count, h .fits .types-count);
-        lengths-count = length-append lengths (c .lengths) ∙ omega (arith, h₂ .1, h .fits .lengths-count);
-        flags-count = length-append flags (c .flags) ∙ omega (arith, h₃ .count, h .fits .flags-count, flag-count-add form n (sum ns));
-        types-small = below-append _ types (c .types) (h₁ .small) (h .fits .types-small);
-        lengths-small = below-append _ lengths (c .lengths) (h₂ .2) (h .fits .lengths-small);
-        flags-small = below-append 2 flags (c .flags) (h₃ .small) (h .fits .flags-small);
-      };
-    }))))
+      written =
+          h .written
+          ∙ ap (_++_ (block-bytes form c)) (g .written)
+          ∙ sym (append-assoc (block-bytes form c) (blocks-bytes form ns d) left)
+          ∙ ap₂ (λ (x z : Columns). (block-bytes form x ++ blocks-bytes form ns z) ++ left)
+          (sym (columns-first form n (sum ns) c d (h .fits) (g .fits))) (sym (columns-rest form n (sum ns) c d (h .fits) (g .fits)));
+      fits = columns-joined form n (sum ns) c d (h .fits) (g .fits);
+    }))

@@ -93,7 +93,8 @@ apply-differences i done (b ∷ base) (c ∷ row) d l =
     = ap (apply (differences (suc i) base row)) (sym (append-assoc done (c ∷ []) base))
     ∙ apply-differences (suc i) (done ++ (c ∷ [])) base row next (omega arith)
     ∙ append-assoc done (c ∷ []) row in
-    by-unless (λ (es : List Entry). apply es (done ++ (b ∷ base)) ≡ done ++ (c ∷ row)) (eqb c b) (record { sample = i; value = c }) (differences (suc i) base row)
+    by-unless (λ (es : List Entry). apply es (done ++ (b ∷ base)) ≡ done ++ (c ∷ row)) (eqb c b) (record { sample = i; value = c })
+    (differences (suc i) base row)
     (λ t. ap (λ (x : ℕ). apply (differences (suc i) base row) (done ++ (x ∷ base))) (sym (eqb-true c b t)) ∙ rest)
     (λ t. ap (apply (differences (suc i) base row)) (set-at done b base c i d) ∙ rest)
 
@@ -120,6 +121,10 @@ differences-patch u i (b ∷ base) (e ∷ es) k m g =
     (λ t.
     let at : e .sample ≡ i = eqb-true (e .sample) i t in
     let held : u .may (i + 0) (e .value) ≡ true = rw (add-zero, ← at) (g .0 .allowed) in
-    simp (ne-eqb (e .value) b (k 0 (e .value) (omega arith) held), differences-patch u (suc i) base es later (omega arith) (subst (λ (s : ℕ). Rising u (suc s) es) at (g .1)))
+    simp (
+      ne-eqb (e .value) b (k 0 (e .value) (omega arith) held),
+      differences-patch u (suc i) base es later (omega arith)
+          (subst (λ (s : ℕ). Rising u (suc s) es) at (g .1)),
+    )
     (ap (λ (s : ℕ). record { sample = s; value = e .value } ∷ es) (sym at)))
     (λ t. simp (eq-eqb b b refl) (differences-patch u (suc i) base (e ∷ es) later (omega arith) (rises-past u i e es g t)))

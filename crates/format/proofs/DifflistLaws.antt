@@ -12,12 +12,14 @@ use Rattle.format.specs.Base.{Bytes, ok}
 use Rattle.format.specs.Varint.{varint-bytes, read-varint}
 use Rattle.format.specs.Numbers.{numbers-bytes, read-numbers, read-bytes}
 use Rattle.format.specs.Packed.{two, packed, read-packed}
-use Rattle.format.specs.Difflist.{Entry, Rule, Rising, groups, heads, sizes-after, size-bytes, values, steps, list-parts, list-bytes, read-first, read-parts, read-list}
+use Rattle.format.specs.Difflist.{Entry, Rule, Rising, groups, heads, sizes-after, size-bytes, values, steps, list-parts, list-bytes, read-first}
+use Rattle.format.specs.Difflist.{read-parts, read-list}
 use Rattle.format.proofs.Rules.{Holds, by-need, by-bind, weaken, below-after, below-append}
 use Rattle.format.proofs.VarintLaws.{varint-read-back, varint-as-written, varint-are-bytes, varint-length, IsVarint}
 use Rattle.format.proofs.NumbersLaws.{numbers-read-back, numbers-as-written, numbers-are-bytes, AreNumbers, bytes-read-back, bytes-as-written, AreBytes}
 use Rattle.format.proofs.PackedLaws.{packed-read-back, packed-as-written, packed-are-bytes, ArePacked}
-use Rattle.format.proofs.EntriesLaws.{heads-count, sizes-count, values-length, values-below, heads-below, rising-length, first-read-back, first-as-written, AreAllEntries}
+use Rattle.format.proofs.EntriesLaws.{heads-count, sizes-count, values-length, values-below, heads-below, rising-length, first-read-back}
+use Rattle.format.proofs.EntriesLaws.{first-as-written, AreAllEntries}
 
 -- ---- read back
 
@@ -56,9 +58,11 @@ list-as-written rule w end bs y =
     by-bind (IsVarint bs) (IsList rule w bs) (read-varint end bs) _ (varint-as-written end bs y) (λ L left i.
     by-need (IsList rule w bs) (leb L (rule .samples)) _ _ _ (λ t.
     let y₀ : Bytes left = below-after 256 (varint-bytes L) left (rw (i .0) at y) in
-    by-bind (AreNumbers w (groups L) left) (IsList rule w bs) (read-numbers end w (groups L) left) _ (numbers-as-written end w (groups L) left y₀) (λ hs left₁ j.
+    by-bind (AreNumbers w (groups L) left) (IsList rule w bs) (read-numbers end w (groups L) left) _ (numbers-as-written end w (groups L) left y₀)
+    (λ hs left₁ j.
     let y₁ : Bytes left₁ = below-after 256 (numbers-bytes w hs) left₁ (rw (j .0) at y₀) in
-    by-bind (AreBytes (groups L - 1) left₁) (IsList rule w bs) (read-bytes end (groups L - 1) left₁) _ (bytes-as-written end (groups L - 1) left₁) (λ zs left₂ k.
+    by-bind (AreBytes (groups L - 1) left₁) (IsList rule w bs) (read-bytes end (groups L - 1) left₁) _ (bytes-as-written end (groups L - 1) left₁)
+    (λ zs left₂ k.
     let y₂ : Bytes left₂ = below-after 256 zs left₂ (rw (k .0) at y₁) in
     by-bind (ArePacked two L left₂) (IsList rule w bs) (read-packed end two L left₂) _ (packed-as-written end two L left₂ y₂) (λ vs left₃ m.
     let y₃ : Bytes left₃ = below-after 256 (packed two vs) left₃ (rw (m .written) at y₂) in

@@ -1,15 +1,16 @@
 -- The entries of a difference list, once its parts have been cut out: its parts' lengths and bounds, entries read back, entries as written.
 -- Assumes nothing.
-use mathlib.Core.Path.{_≡_, refl, ap}
+use mathlib.Core.Path.{_≡_, refl, ap, _∙_}
 use Prim.Native.Nat.{ℕ, zero, suc, _+_, _-_, _/_, _^_, _≤_, _<_, zero-le}
 use mathlib.Core.List.{List, [], _∷_, _++_, append-assoc}
-use lib.ListN.{length}
+use lib.ListN.{length, length-append}
 use lib.Dec.{ltb, leb, eqb, lit≤}
 use native.Mathlib.Omega.{arith}
 use borrow.Author.Tests.{lt-ltb, le-leb, eq-eqb, ltb-true, leb-true, eqb-true}
 use Rattle.format.specs.Base.{Below, Bytes, Out, ok, map-out}
 use Rattle.format.specs.Varint.{varint-bytes, read-varint}
-use Rattle.format.specs.Difflist.{Entry, Rule, Good, Rising, groups, heads, sizes-after, size-bytes, values, steps, Parts, read-entry, read-entries, read-first}
+use Rattle.format.specs.Difflist.{Entry, Rule, Good, Rising, groups, heads, sizes-after, size-bytes, values, steps, Parts, read-entry, read-entries}
+use Rattle.format.specs.Difflist.{read-first}
 use Rattle.format.proofs.Rules.{Holds, by-need, by-map, by-bind, weaken, below-after}
 use Rattle.format.proofs.VarintLaws.{varint-read-back, varint-as-written, varint-length, IsVarint}
 
@@ -66,6 +67,10 @@ pub rising-length : (rule : Rule) (least : ℕ) (es : List Entry) → least ≤ 
 rising-length rule least [] l g = omega arith
 rising-length rule least (e ∷ es) l g = omega (arith, g .0 .rises, rising-length rule (suc (e .sample)) es (g .0 .inside) (g .1))
 
+-- the bytes that were read are all but those left
+pub consumed : (xs left : List ℕ) → length (xs ++ left) - length left ≡ length xs
+consumed xs left = simp length-append (omega arith)
+
 -- ---- read back
 
 -- an entry that the rule lets in is read
@@ -89,9 +94,10 @@ entries-read-back rule parts (suc room) size before (e ∷ es) left m i g =
     let h : suc before ≤ e .sample = g .0 .rises in
     let l : e .sample < rule .samples = g .0 .inside in
     let back : before + step ≡ e .sample = omega arith in
-    let ih : read-entries rule parts room now (e .sample) (heads room es) (sizes-after room now (e .sample) es) (values es) (steps room (e .sample) es ++ left) ≡ ok es left
+    let rest : List ℕ = steps room (e .sample) es ++ left in
+    let ih : read-entries rule parts room now (e .sample) (heads room es) (sizes-after room now (e .sample) es) (values es) rest ≡ ok es left
     = entries-read-back rule parts room now (e .sample) es left m (omega (arith, varint-length step .0)) (g .1) in
-    simp (append-assoc, varint-read-back (parts .end) step (steps room (e .sample) es ++ left) (omega arith), back, entry-read-back, g .0, ih)
+    simp (append-assoc, varint-read-back (parts .end) step rest (omega arith), consumed (varint-bytes step) rest, back, entry-read-back, g .0, ih)
 
 -- the parts of a whole list give its entries back
 pub first-read-back : (rule : Rule) (parts : Parts) (es : List Entry) (left : List ℕ) → rule .samples < 2 ^ 32 → Rising rule 0 es
@@ -152,7 +158,9 @@ entries-as-written rule parts zero size before (h ∷ hs) (z ∷ zs) (v ∷ vs) 
 entries-as-written rule parts (suc room) size before hs zs (v ∷ vs) bs f y =
     by-bind (IsVarint bs) (AreEntries rule (suc room) size before hs zs (v ∷ vs) bs) (read-varint (parts .end) bs) _
     (varint-as-written (parts .end) bs y) (λ step left i.
-    let now : ℕ = size + length (varint-bytes step) in
+    let now : ℕ = size + (length bs - length left) in
+    let same : now ≡ size + length (varint-bytes step)
+    = ap (λ (x : List ℕ). size + (length x - length left)) (i .0) ∙ ap (_+_ size) (consumed (varint-bytes step) left) in
     by-entry (AreEntries rule (suc room) size before hs zs (v ∷ vs) bs) rule parts (suc before) _ (before + step) v vs
     (read-entries rule parts room now (before + step) hs zs vs left) (f .0) (λ g.
     weaken (AreEntries rule room now (before + step) hs zs vs left) _ (read-entries rule parts room now (before + step) hs zs vs left)
@@ -160,7 +168,7 @@ entries-as-written rule parts (suc room) size before hs zs (v ∷ vs) bs f y =
     let e : before + step - before ≡ step = omega arith in
     record {
       the-heads = w .the-heads;
-      the-sizes = rw e (w .the-sizes);
+      the-sizes = rw (e, ← same) (w .the-sizes);
       the-values = ap (_∷_ v) (w .the-values);
       the-steps = simp (e, append-assoc, i .0, w .the-steps);
       rising = (g, w .rising);

@@ -2,24 +2,30 @@
 -- Assumes nothing.
 use mathlib.Core.Path.{_≡_, refl, sym, ap, ap₂, _∙_, subst}
 use Prim.Native.Nat.{ℕ, zero, _+_, _≤_, _<_}
+use native.Mathlib.Nat.{mod-eq-of-lt}
+use mathlib.Core.Bool.{Bool}
 use mathlib.Core.Logic.{_↔_}
 use mathlib.Core.List.{List, [], _∷_, _++_, map}
 use lib.ListN.{length}
 use native.Mathlib.Omega.{arith}
-use Rattle.format.specs.Base.{Bytes, ok}
-use Rattle.format.specs.Body.{Body, body-type, body-bytes, read-body, body-categories}
-use Rattle.format.specs.Layout.{most-samples, fixed-bytes, arrays-bytes, header-end, Layout, fixed-of, columns-of, arrays-of, joined, in-parts, layout-bytes, LayoutObeys}
+use Rattle.format.specs.Base.{Bytes, ok, Below}
+use Rattle.format.specs.Limits.{most-samples}
+use Rattle.format.specs.Body.{Body, body-type, body-bytes, read-body, body-categories, type-leans, body-leans}
+use Rattle.format.specs.Variant.{file-variant}
+use Rattle.format.specs.Layout.{header-bytes, first-record, Layout, fixed-of, columns-of, arrays-of, joined, in-parts, layout-bytes}
+use Rattle.format.specs.Layout.{LayoutObeys}
 use Rattle.format.specs.Header.{read-layout}
 use Rattle.format.specs.File.{File, layout-of-file, file-bytes, next-anchor, BodiesFit, Obeys, read-records, file-of, read-all, read-file}
 use Rattle.format.proofs.Rules.{Holds, by-bind, by-map, below-after}
-use Rattle.format.proofs.BodyLaws.{body-read-back, IsBody, body-as-written}
+use Rattle.format.proofs.BodyLaws.{body-read-back, IsBody, body-as-written, kept-leaning, body-leans-typed}
+use Rattle.format.proofs.AnchorLaws.{allowed-small}
 use Rattle.format.proofs.HeaderLaws.{layout-read-back, IsLayout, layout-as-written}
 use Rattle.format.proofs.OffsetsLaws.{from-1-to-most, types-counted}
 
 -- ---- the records of a file, in variant order
 
 -- bodies that fit, written out, are read back
-pub records-read-back : (N start : ℕ) (anchor : List ℕ) (bodies : List Body) → N ≤ 65536 → BodiesFit N anchor bodies
+pub records-read-back : (N start : ℕ) (anchor : List ℕ) (bodies : List Body) → N ≤ most-samples → BodiesFit N anchor bodies
     → read-records N start anchor (map body-type bodies) (map (body-bytes N) bodies) ≡ ok bodies []
 unfolding read-records
 records-read-back N start anchor [] l f = refl
@@ -27,7 +33,8 @@ records-read-back N start anchor (body ∷ bodies) l f =
     let end : ℕ = start + length (body-bytes N body) in
     simp (
       body-read-back end N anchor body l (f .0),
-      records-read-back N end (next-anchor (body-type body) anchor (body-categories N anchor body)) bodies l (f .1),
+      body-leans-typed N anchor body (f .0),
+      records-read-back N end (next-anchor (body-leans body) anchor (body-categories N anchor body)) bodies l (f .1),
     )
 
 abbrev pub AllBytes : List (List ℕ) → Type 0
@@ -41,31 +48,32 @@ pub record AreRecords (N : ℕ) (anchor types : List ℕ) (stored : List (List �
   pub ended : left ≡ []
 
 -- what is accepted are bodies that fit, written out
-pub records-as-written : (N start : ℕ) (anchor types : List ℕ) (stored : List (List ℕ)) → length types ≡ length stored → AllBytes stored
-    → Holds (AreRecords N anchor types stored) (read-records N start anchor types stored)
+pub records-as-written : (N start : ℕ) (anchor types : List ℕ) (stored : List (List ℕ)) → length types ≡ length stored → Below 8 types
+    → AllBytes stored → Holds (AreRecords N anchor types stored) (read-records N start anchor types stored)
 unfolding read-records
-records-as-written N start anchor [] [] n y = record { fit = tt; types-are = refl; stored-are = refl; ended = refl }
-records-as-written N start anchor [] (bs ∷ stored) n y = absurd (omega arith)
-records-as-written N start anchor (type ∷ types) [] n y = absurd (omega arith)
-records-as-written N start anchor (type ∷ types) (bs ∷ stored) n y =
+records-as-written N start anchor [] [] n t y = record { fit = tt; types-are = refl; stored-are = refl; ended = refl }
+records-as-written N start anchor [] (bs ∷ stored) n t y = absurd (omega arith)
+records-as-written N start anchor (type ∷ types) [] n t y = absurd (omega arith)
+records-as-written N start anchor (type ∷ types) (bs ∷ stored) n t y =
     let end : ℕ = start + length bs in
     by-bind (IsBody N anchor type bs) (AreRecords N anchor (type ∷ types) (bs ∷ stored)) (read-body end N anchor type bs) _
     (body-as-written end N anchor type bs (y .0)) (λ body left w.
-    let next : List ℕ = next-anchor type anchor (body-categories N anchor body) in
+    let next : List ℕ = next-anchor (type-leans type) anchor (body-categories N anchor body) in
     by-map (AreRecords N next types stored) (AreRecords N anchor (type ∷ types) (bs ∷ stored)) (read-records N end next types stored) _
-    (records-as-written N end next types stored (omega arith) (y .1)) (λ bodies left₂ v.
-    let same : next ≡ next-anchor (body-type body) anchor (body-categories N anchor body)
-    = ap (λ (t : ℕ). next-anchor t anchor (body-categories N anchor body)) (sym (w .kind)) in
+    (records-as-written N end next types stored (omega arith) (t .1) (y .1)) (λ bodies left₂ v.
+    let same : next ≡ next-anchor (body-leans body) anchor (body-categories N anchor body)
+    = ap (λ (b : Bool). next-anchor b anchor (body-categories N anchor body)) (sym (kept-leaning w)) in
+    let kept : type ≡ body-type body = sym (w .kind ∙ mod-eq-of-lt (t .0)) in
     record {
       fit = (w .fits, subst (λ (x : List ℕ). BodiesFit N x bodies) same (v .fit));
-      types-are = ap₂ _∷_ (sym (w .kind)) (v .types-are);
+      types-are = ap₂ _∷_ kept (v .types-are);
       stored-are = ap₂ _∷_ (w .written) (v .stored-are);
       ended = v .ended;
     }))
 
 -- ---- the bodies of a layout are bytes, one for each type
 
-joined-bytes : (stored : List (List ℕ)) → Bytes (joined stored) → AllBytes stored
+pub joined-bytes : (stored : List (List ℕ)) → Bytes (joined stored) → AllBytes stored
 unfolding joined
 joined-bytes [] y = tt
 joined-bytes (bs ∷ stored) y = (front bs (joined stored) y, joined-bytes stored (below-after 256 bs (joined stored) y))
@@ -77,8 +85,7 @@ joined-bytes (bs ∷ stored) y = (front bs (joined stored) y, joined-bytes store
 pub bodies-are-bytes : (K : ℕ) (bs : List ℕ) (l : Layout) → Bytes bs → bs ≡ layout-bytes K l → AllBytes (l .bodies)
 unfolding layout-bytes in-parts
 bodies-are-bytes K bs l y e =
-    joined-bytes (l .bodies)
-    (below-after 256 (arrays-bytes K (fixed-of l) (arrays-of K l)) (joined (l .bodies)) (below-after 256 (fixed-bytes (fixed-of l)) _ (rw e at y)))
+    joined-bytes (l .bodies) (below-after 256 (header-bytes K (fixed-of l) (arrays-of K l)) (joined (l .bodies)) (rw e at y))
 
 pub one-type-each : (K : ℕ) (l : Layout) → LayoutObeys K l → length (l .types) ≡ length (l .bodies)
 one-type-each K l h = types-counted (fixed-of l) (columns-of l) (h .columns)
@@ -102,7 +109,8 @@ file-read-back K f p h =
     let l : Layout = layout-of-file f in
     simp (
       layout-read-back K l p (h .layout),
-      records-read-back (f .samples) (header-end K (fixed-of l)) [] (f .bodies) (from-1-to-most most-samples (f .samples) (h .layout .fixed .samples)) (h .bodies),
+      records-read-back (f .samples) (first-record K (fixed-of l)) [] (f .bodies) (from-1-to-most most-samples (f .samples) (h .layout .fixed .samples))
+          (h .bodies),
     )
 
 -- what the whole-file check accepts obeys, and its bytes are those of the file
@@ -110,8 +118,10 @@ pub file-as-written : (K : ℕ) (bs : List ℕ) → zero < K → Bytes bs → Ho
 unfolding read-file read-all file-bytes
 file-as-written K bs p y =
     by-bind (IsLayout K bs) (IsFile K bs) (read-layout K bs) _ (layout-as-written K bs p y) (λ l left w.
-    by-map (AreRecords (l .samples) [] (l .types) (l .bodies)) (IsFile K bs) (read-records (l .samples) (header-end K (fixed-of l)) [] (l .types) (l .bodies)) _
-    (records-as-written (l .samples) (header-end K (fixed-of l)) [] (l .types) (l .bodies) (one-type-each K l (w .obeys)) (bodies-are-bytes K bs l y (w .written)))
+    by-map (AreRecords (l .samples) [] (l .types) (l .bodies)) (IsFile K bs)
+    (read-records (l .samples) (first-record K (fixed-of l)) [] (l .types) (l .bodies)) _
+    (records-as-written (l .samples) (first-record K (fixed-of l)) [] (l .types) (l .bodies) (one-type-each K l (w .obeys))
+    (allowed-small K (file-variant 0) (l .types) (w .obeys .types)) (bodies-are-bytes K bs l y (w .written)))
     (λ bodies left₂ v.
     let same : l ≡ layout-of-file (file-of l bodies) = same-layout l bodies (v .types-are) (v .stored-are) in
     record {

@@ -1,4 +1,5 @@
--- The flip of a set over the bodies of a file, in variant order: what fits still fits, every row is exchanged exactly if its variant is in the set, two flips are one.
+-- The flip of a set over the bodies of a file, in variant order: what fits still fits, every row is exchanged exactly if its variant is in the
+-- set, two flips are one.
 -- Assumes nothing.
 use mathlib.Core.Path.{_≡_, refl, sym, ap, ap₂, _∙_, subst}
 use Prim.Native.Nat.{ℕ, zero, suc, _+_, _≤_}
@@ -10,13 +11,14 @@ use native.Mathlib.Omega.{arith}
 use Rattle.format.specs.declared.FileVariant.{FileVariant}
 use Rattle.format.specs.Base.{pick, Below}
 use Rattle.format.specs.Category.{exchange-all, just-one}
-use Rattle.format.specs.Track.{leans}
-use Rattle.format.specs.Body.{Body, body-type, body-bytes, body-categories}
+use Rattle.format.specs.Body.{Body, body-type, body-bytes, body-categories, body-leans}
 use Rattle.format.specs.Variant.{file-variant, next-variant, in-block}
 use Rattle.format.specs.Layout.{TypesAllowed}
 use Rattle.format.specs.File.{next-anchor, rows, BodiesFit, flip-bodies}
-use Rattle.format.proofs.FlipTrackLaws.{fits-flip, categories-flip, flip-body-twice, flip-body-none, next-anchor-kept, next-anchor-flip, next-anchor-just-one}
-use Rattle.format.proofs.FlipTypeLaws.{flip-length, track-kind-small, type-allowed-flip, plain-flip}
+use Rattle.format.proofs.TrackLaws.{track-kind-small}
+use Rattle.format.proofs.FlipTrackLaws.{fits-flip, categories-flip, flip-body-twice, flip-body-none, next-anchor-kept, next-anchor-flip}
+use Rattle.format.proofs.FlipTrackLaws.{next-anchor-just-one}
+use Rattle.format.proofs.FlipTypeLaws.{flip-length, type-allowed-flip, plain-flip}
 
 -- ---- what fits still fits, over the anchor flipped as its membership says
 
@@ -25,22 +27,24 @@ pub bodies-fit-flip : (N : ℕ) (member : FileVariant → Bool) (v : FileVariant
 bodies-fit-flip N member v lent anchor [] f = tt
 bodies-fit-flip N member v lent anchor (body ∷ bodies) f = (
   fits-flip N lent (member v) anchor (body .main) (f .0),
-  subst (λ (x : List ℕ). BodiesFit N x (flip-bodies member (next-variant v) (next-anchor (body-type body) lent (member v)) bodies))
+  subst (λ (x : List ℕ). BodiesFit N x (flip-bodies member (next-variant v) (next-anchor (body-leans body) lent (member v)) bodies))
       (sym (next-anchor-flip N lent (member v) anchor body))
-      (bodies-fit-flip N member (next-variant v) (next-anchor (body-type body) lent (member v)) (next-anchor (body-type body) anchor (body-categories N anchor body)) bodies (f .1)),
+      (bodies-fit-flip N member (next-variant v) (next-anchor (body-leans body) lent (member v))
+      (next-anchor (body-leans body) anchor (body-categories N anchor body)) bodies (f .1)),
 )
 
 -- ---- the rows: those of the set exchanged, all others as before, also where they lean on a member
 
 pub row-flip : (N : ℕ) (member : FileVariant → Bool) (v : FileVariant) (lent : Bool) (anchor : List ℕ) (bodies : List Body) (k : ℕ)
-    → getD (rows N (exchange-all lent anchor) (flip-bodies member v lent bodies)) k [] ≡ exchange-all (member (file-variant (v .0 + k))) (getD (rows N anchor bodies) k [])
+    → getD (rows N (exchange-all lent anchor) (flip-bodies member v lent bodies)) k []
+    ≡ exchange-all (member (file-variant (v .0 + k))) (getD (rows N anchor bodies) k [])
 row-flip N member v lent anchor [] k = refl
 row-flip N member v lent anchor (body ∷ bodies) zero =
     categories-flip N lent (member v) anchor (body .main)
     ∙ ap (λ (u : ℕ). exchange-all (member (file-variant u)) (body-categories N anchor body)) (sym (add-zero (v .0)))
 row-flip N member v lent anchor (body ∷ bodies) (suc k) =
-    let next : Bool = next-anchor (body-type body) lent (member v) in
-    let row : List ℕ = next-anchor (body-type body) anchor (body-categories N anchor body) in
+    let next : Bool = next-anchor (body-leans body) lent (member v) in
+    let row : List ℕ = next-anchor (body-leans body) anchor (body-categories N anchor body) in
     let e : suc (v .0) + k ≡ v .0 + suc k = omega arith in
     ap (λ (x : List ℕ). getD (rows N x (flip-bodies member (next-variant v) next bodies)) k []) (next-anchor-flip N lent (member v) anchor body)
     ∙ row-flip N member (next-variant v) next row bodies k
@@ -52,10 +56,11 @@ pub flip-bodies-twice : (m m′ : FileVariant → Bool) (v : FileVariant) (a b :
     → flip-bodies m v a (flip-bodies m′ v b bodies) ≡ flip-bodies (λ (u : FileVariant). just-one (m u) (m′ u)) v (just-one a b) bodies
 flip-bodies-twice m m′ v a b [] = refl
 flip-bodies-twice m m′ v a b (body ∷ bodies) =
-    let t : ℕ = body-type body in
+    let t : Bool = body-leans body in
     let both : FileVariant → Bool = λ (u : FileVariant). just-one (m u) (m′ u) in
     ap₂ _∷_ (flip-body-twice a (m v) b (m′ v) body)
-    (ap (λ (x : Bool). flip-bodies m (next-variant v) x (flip-bodies m′ (next-variant v) (next-anchor t b (m′ v)) bodies)) (next-anchor-kept b (m′ v) body a (m v))
+    (ap (λ (x : Bool). flip-bodies m (next-variant v) x (flip-bodies m′ (next-variant v) (next-anchor t b (m′ v)) bodies))
+    (next-anchor-kept b (m′ v) body a (m v))
     ∙ flip-bodies-twice m m′ (next-variant v) (next-anchor t a (m v)) (next-anchor t b (m′ v)) bodies
     ∙ ap (λ (x : Bool). flip-bodies both (next-variant v) x bodies) (next-anchor-just-one t a (m v) b (m′ v)))
 
@@ -64,7 +69,7 @@ pub flip-bodies-none : (v : FileVariant) (bodies : List Body) → flip-bodies (�
 flip-bodies-none v [] = refl
 flip-bodies-none v (body ∷ bodies) =
     ap₂ _∷_ (flip-body-none body)
-    (ap (λ (x : Bool). flip-bodies (λ (u : FileVariant). false) (next-variant v) x bodies) (same (leans (body-type body))) ∙ flip-bodies-none (next-variant v) bodies)
+    (ap (λ (x : Bool). flip-bodies (λ (u : FileVariant). false) (next-variant v) x bodies) (same (body-leans body)) ∙ flip-bodies-none (next-variant v) bodies)
   where
     same : (t : Bool) → pick t false false ≡ false
     same true = refl
@@ -74,27 +79,32 @@ flip-bodies-none v (body ∷ bodies) =
 
 pub flip-count : (member : FileVariant → Bool) (v : FileVariant) (lent : Bool) (bodies : List Body) → length (flip-bodies member v lent bodies) ≡ length bodies
 flip-count member v lent [] = refl
-flip-count member v lent (body ∷ bodies) = ap suc (flip-count member (next-variant v) (next-anchor (body-type body) lent (member v)) bodies)
+flip-count member v lent (body ∷ bodies) = ap suc (flip-count member (next-variant v) (next-anchor (body-leans body) lent (member v)) bodies)
 
 pub flip-lengths : (N : ℕ) (member : FileVariant → Bool) (v : FileVariant) (lent : Bool) (bodies : List Body)
     → map length (map (body-bytes N) (flip-bodies member v lent bodies)) ≡ map length (map (body-bytes N) bodies)
 flip-lengths N member v lent [] = refl
 flip-lengths N member v lent (body ∷ bodies) =
-    ap₂ _∷_ (flip-length N lent (member v) (body .main)) (flip-lengths N member (next-variant v) (next-anchor (body-type body) lent (member v)) bodies)
+    ap₂ _∷_ (flip-length N lent (member v) (body .main)) (flip-lengths N member (next-variant v) (next-anchor (body-leans body) lent (member v)) bodies)
 
-pub types-allowed-flip : (K N : ℕ) (member : FileVariant → Bool) (v : FileVariant) (lent : Bool) (anchor : List ℕ) (bodies : List Body) → BodiesFit N anchor bodies
+pub types-allowed-flip : (K N : ℕ) (member : FileVariant → Bool) (v : FileVariant) (lent : Bool) (anchor : List ℕ) (bodies : List Body)
+    → BodiesFit N anchor bodies
     → TypesAllowed K v (map body-type bodies) → TypesAllowed K v (map body-type (flip-bodies member v lent bodies))
 types-allowed-flip K N member v lent anchor [] f h = tt
 types-allowed-flip K N member v lent anchor (body ∷ bodies) f h = (
   type-allowed-flip N lent (member v) anchor (body .main) (in-block K v) (f .0) (h .0),
-  types-allowed-flip K N member (next-variant v) (next-anchor (body-type body) lent (member v)) (next-anchor (body-type body) anchor (body-categories N anchor body)) bodies (f .1) (h .1),
+  types-allowed-flip K N member (next-variant v) (next-anchor (body-leans body) lent (member v))
+      (next-anchor (body-leans body) anchor (body-categories N anchor body)) bodies (f .1) (h .1),
 )
 
 -- the types of bodies that fit are below 8
 pub types-small : (N m : ℕ) (anchor : List ℕ) (bodies : List Body) → 8 ≤ m → BodiesFit N anchor bodies → Below m (map body-type bodies)
 types-small N m anchor [] l f = tt
-types-small N m anchor (body ∷ bodies) l f =
-    (le-trans (track-kind-small N anchor (body .main) (f .0)) l, types-small N m (next-anchor (body-type body) anchor (body-categories N anchor body)) bodies l (f .1))
+types-small N m anchor (body ∷ bodies) l f = (
+  le-trans (track-kind-small N anchor (body .main) (f .0)) l,
+  types-small N m (next-anchor (body-leans body) anchor (body-categories N anchor body)) bodies l
+      (f .1),
+)
 
 -- where all types are 0 they stay so
 pub types-zero-flip : (n : ℕ) (member : FileVariant → Bool) (v : FileVariant) (lent : Bool) (bodies : List Body) → map body-type bodies ≡ replicate n 0
@@ -103,4 +113,4 @@ types-zero-flip n member v lent [] h = h
 types-zero-flip zero member v lent (body ∷ bodies) h = absurd (omega (arith, ap length h))
 types-zero-flip (suc n) member v lent (body ∷ bodies) h =
     ap₂ _∷_ (plain-flip lent (member v) (body .main) (ap (λ (xs : List ℕ). getD xs 0 0) h))
-    (types-zero-flip n member (next-variant v) (next-anchor (body-type body) lent (member v)) bodies (cc))
+    (types-zero-flip n member (next-variant v) (next-anchor (body-leans body) lent (member v)) bodies (cc))

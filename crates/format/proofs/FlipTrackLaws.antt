@@ -10,12 +10,14 @@ use Rattle.format.specs.Base.{pick}
 use Rattle.format.specs.Category.{exchange-if, exchange-all, just-one}
 use Rattle.format.specs.Difflist.{Entry, Rising}
 use Rattle.format.specs.PairCode.{pair, category-of}
-use Rattle.format.specs.Track.{against-category, kind, leans, Track, plain, one-bit, leaning, sparse, track-kind, off-pair, off-category, off-anchor, rule, Fits, apply, track-categories, revalue, image-if, flip-track}
-use Rattle.format.specs.Body.{Body, body-type, body-categories, flip-body}
+use Rattle.format.specs.Track.{against-category, kind, Track, plain, one-bit, leaning, sparse, track-leans, off-pair, off-category, off-anchor, rule}
+use Rattle.format.specs.Track.{Fits, apply, track-categories, revalue, image-if, flip-track}
+use Rattle.format.specs.Body.{Body, body-leans, body-categories, flip-body}
 use Rattle.format.specs.File.{next-anchor}
-use Rattle.format.proofs.CategoryLaws.{just-one-joined, just-one-pairs, just-one-order, just-one-out, exchange-if-twice, exchange-below, exchange-eqb, exchange-all-twice, exchange-all-none, exchange-all-length, exchange-all-below, exchange-all-at, exchange-all-set, exchange-all-replicate}
+use Rattle.format.proofs.CategoryLaws.{just-one-joined, just-one-pairs, just-one-order, just-one-out, exchange-if-twice, exchange-below, exchange-eqb}
+use Rattle.format.proofs.CategoryLaws.{exchange-all-twice, exchange-all-none, exchange-all-length, exchange-all-below, exchange-all-at, exchange-all-set}
+use Rattle.format.proofs.CategoryLaws.{exchange-all-replicate}
 use Rattle.format.proofs.PairLaws.{categories-of-image, in-pair-image, image-if-twice, turns-twice, bits-turned-twice, bits-not-turned}
-use Rattle.format.proofs.RowLaws.{leaning-leans}
 
 -- ---- it fits
 
@@ -43,7 +45,8 @@ category-exchanged true (suc (suc zero)) h = refl
 category-exchanged true (suc (suc (suc category))) h = h
 
 -- an exchanged value differs from the exchanged anchor's exactly where the value differs from the anchor's
-off-anchor-exchanged : (b : Bool) (anchor : List ℕ) (sample value : ℕ) → off-anchor (exchange-all b anchor) sample (exchange-if b value) ≡ off-anchor anchor sample value
+off-anchor-exchanged : (b : Bool) (anchor : List ℕ) (sample value : ℕ)
+    → off-anchor (exchange-all b anchor) sample (exchange-if b value) ≡ off-anchor anchor sample value
 off-anchor-exchanged b anchor sample value =
     ap not (ap (eqb (exchange-if b value)) (exchange-all-at b anchor sample) ∙ exchange-eqb b value (getD anchor sample 1))
 
@@ -58,7 +61,8 @@ fits-flip N lent member anchor (leaning inverted es) f =
     rising-revalued N (off-anchor anchor) (off-anchor (exchange-all lent anchor)) lent (off-anchor-exchanged lent anchor) 0 es f
 fits-flip N lent member anchor (sparse category es) f = (
   category-exchanged member category (f .0),
-  rising-revalued N (off-category category) (off-category (exchange-if member category)) member (λ sample value. ap not (exchange-eqb member value category)) 0 es (f .1),
+  rising-revalued N (off-category category) (off-category (exchange-if member category)) member
+      (λ sample value. ap not (exchange-eqb member value category)) 0 es (f .1),
 )
 
 -- ---- the row that it stands for
@@ -131,29 +135,26 @@ flip-body-none body = ap (λ (t : Track). record { main = t }) (flip-track-none 
 -- ---- what the next record leans on
 
 -- a flipped track leans exactly if the track does
-pub leans-flip : (lent member : Bool) (t : Track) → leans (track-kind (flip-track lent member t)) ≡ leans (track-kind t)
+pub leans-flip : (lent member : Bool) (t : Track) → track-leans (flip-track lent member t) ≡ track-leans t
 leans-flip lent member (plain categories) = refl
 leans-flip lent member (one-bit c bits es) = refl
-leans-flip lent member (leaning inverted es) = leaning-leans (just-one (just-one lent member) inverted) ∙ sym (leaning-leans inverted)
-leans-flip lent false (sparse category es) = refl
-leans-flip lent true (sparse zero es) = refl
-leans-flip lent true (sparse (suc zero) es) = refl
-leans-flip lent true (sparse (suc (suc zero)) es) = refl
-leans-flip lent true (sparse (suc (suc (suc category))) es) = refl
+leans-flip lent member (leaning inverted es) = refl
+leans-flip lent member (sparse category es) = refl
 
 -- so the next one leans on the same
 pub next-anchor-kept {ℓ} : {X : Type ℓ} (lent member : Bool) (body : Body) (x y : X)
-    → next-anchor (body-type (flip-body lent member body)) x y ≡ next-anchor (body-type body) x y
+    → next-anchor (body-leans (flip-body lent member body)) x y ≡ next-anchor (body-leans body) x y
 next-anchor-kept lent member body x y = ap (λ (t : Bool). pick t x y) (leans-flip lent member (body .main))
 
 -- and that is flipped as its own membership says
 pub next-anchor-flip : (N : ℕ) (lent member : Bool) (anchor : List ℕ) (body : Body)
-    → next-anchor (body-type (flip-body lent member body)) (exchange-all lent anchor) (body-categories N (exchange-all lent anchor) (flip-body lent member body))
-    ≡ exchange-all (next-anchor (body-type body) lent member) (next-anchor (body-type body) anchor (body-categories N anchor body))
+    → next-anchor (body-leans (flip-body lent member body)) (exchange-all lent anchor)
+    (body-categories N (exchange-all lent anchor) (flip-body lent member body))
+    ≡ exchange-all (next-anchor (body-leans body) lent member) (next-anchor (body-leans body) anchor (body-categories N anchor body))
 next-anchor-flip N lent member anchor body =
     next-anchor-kept lent member body (exchange-all lent anchor) _
-    ∙ ap (next-anchor (body-type body) (exchange-all lent anchor)) (categories-flip N lent member anchor (body .main))
-    ∙ by (leans (body-type body))
+    ∙ ap (next-anchor (body-leans body) (exchange-all lent anchor)) (categories-flip N lent member anchor (body .main))
+    ∙ by (body-leans body)
   where
     by : (t : Bool) → pick t (exchange-all lent anchor) (exchange-all member (body-categories N anchor body))
         ≡ exchange-all (pick t lent member) (pick t anchor (body-categories N anchor body))
@@ -161,10 +162,7 @@ next-anchor-flip N lent member anchor body =
     by false = refl
 
 -- what it leans on is in just one of two sets exactly as the sets say of it
-pub next-anchor-just-one : (number : ℕ) (a o a′ o′ : Bool)
-    → just-one (next-anchor number a o) (next-anchor number a′ o′) ≡ next-anchor number (just-one a a′) (just-one o o′)
-next-anchor-just-one number a o a′ o′ = by (leans number)
-  where
-    by : (t : Bool) → just-one (pick t a o) (pick t a′ o′) ≡ pick t (just-one a a′) (just-one o o′)
-    by true = refl
-    by false = refl
+pub next-anchor-just-one : (leaning a o a′ o′ : Bool)
+    → just-one (next-anchor leaning a o) (next-anchor leaning a′ o′) ≡ next-anchor leaning (just-one a a′) (just-one o o′)
+next-anchor-just-one true a o a′ o′ = refl
+next-anchor-just-one false a o a′ o′ = refl

@@ -1,25 +1,31 @@
--- What a flip keeps of a track: its length in bytes, and that its type is allowed.
+-- What a flip keeps of a track: its length in bytes, and that its type is allowed; and what it does to the type's number.
 -- Assumes nothing.
 use mathlib.Core.Path.{_≡_, refl, sym, ap, ap₂, _∙_}
-use Prim.Native.Nat.{ℕ, zero, suc, _+_, _-_, _<_}
-use mathlib.Core.Bool.{Bool, true, false, not, _&&_}
+use Prim.Native.Nat.{ℕ, zero, suc, _+_, _-_, _*_, _/_, _<_}
+use native.Mathlib.Nat.{div-eq-of-lt}
+use mathlib.Core.Bool.{Bool, true, false, not, _&&_, _||_}
 use mathlib.Core.List.{List, [], _∷_, _++_, map}
-use lib.ListN.{length, length-append, length-map}
+use lib.ListN.{length, getD, length-append, length-map}
 use lib.Dec.{eqb, lit<}
 use native.Mathlib.Omega.{arith}
 use borrow.Author.Tests.{lt-ltb, ne-eqb}
 use Rattle.format.specs.declared.BlockVariant.{BlockVariant}
+use Rattle.format.specs.Base.{pick}
 use Rattle.format.specs.Category.{exchange-if, exchange-all, just-one}
 use Rattle.format.specs.Varint.{varint-bytes}
 use Rattle.format.specs.Numbers.{numbers-bytes}
 use Rattle.format.specs.Packed.{one, two, packed}
 use Rattle.format.specs.Difflist.{Entry, number-width, heads, sizes-after, size-bytes, values, steps, list-parts, list-bytes}
 use Rattle.format.specs.PairCode.{pair}
-use Rattle.format.specs.Track.{against-category, kind, leans, Track, plain, one-bit, leaning, sparse, track-kind, Fits, bit-number, track-bytes, revalue, flip-track}
+use Rattle.format.specs.Track.{against-category, kind, Track, plain, one-bit, leaning, sparse, track-kind, track-leans, Fits, bit-number, track-bytes}
+use Rattle.format.specs.Track.{revalue, flip-track, leans}
+use Rattle.format.specs.Body.{kind-of, type-leans, Body, body-type, BodyFits, flip-body, flip-kind, flip-type}
 use Rattle.format.specs.Layout.{type-allowed}
+use Rattle.format.proofs.Rules.{never-both, by-test}
 use Rattle.format.proofs.CategoryLaws.{exchange-all-length}
 use Rattle.format.proofs.PackedLaws.{packed-length}
-use Rattle.format.proofs.RowLaws.{category-below}
+use Rattle.format.proofs.TrackLaws.{track-kind-small, leans-track}
+use Rattle.format.proofs.BodyLaws.{body-kind}
 use Rattle.format.proofs.FlipTrackLaws.{fits-flip, leans-flip}
 
 -- ---- of a list only the values change
@@ -99,14 +105,6 @@ flip-length N lent member (sparse category es) = list-length-kept member (number
 
 -- ---- types
 
--- a track that fits has a kind below 8
-pub track-kind-small : (N : ℕ) (anchor : List ℕ) (t : Track) → Fits N anchor t → track-kind t < 8
-track-kind-small N anchor (plain categories) f = lit< tt
-track-kind-small N anchor (one-bit c bits es) f = lit< tt
-track-kind-small N anchor (leaning true es) f = lit< tt
-track-kind-small N anchor (leaning false es) f = lit< tt
-track-kind-small N anchor (sparse category es) f = omega (arith, category-below category (f .0))
-
 -- and not 5
 pub track-kind-not-5 : (N : ℕ) (anchor : List ℕ) (t : Track) → Fits N anchor t → eqb (track-kind t) 5 ≡ false
 track-kind-not-5 N anchor (plain categories) f = refl
@@ -123,8 +121,9 @@ track-kind-not-5 N anchor (sparse (suc (suc category)) es) f =
 
 -- so its type is allowed, except where a block's first variant leans
 pub track-allowed : (N : ℕ) (anchor : List ℕ) (t : Track) (i : BlockVariant) → Fits N anchor t
-    → type-allowed i (track-kind t) ≡ not (eqb (i .0) 0 && leans (track-kind t))
-track-allowed N anchor t i f = rw (lt-ltb (track-kind t) 8 (track-kind-small N anchor t f), track-kind-not-5 N anchor t f)
+    → type-allowed i (track-kind t) ≡ not (eqb (i .0) 0 && track-leans t)
+track-allowed N anchor t i f =
+    rw (lt-ltb (track-kind t) 8 (track-kind-small N anchor t f), body-kind N anchor (record { main = t }) f, track-kind-not-5 N anchor t f, leans-track t)
 
 -- where a type was allowed, the flipped one is
 pub type-allowed-flip : (N : ℕ) (lent member : Bool) (anchor : List ℕ) (t : Track) (i : BlockVariant) → Fits N anchor t → type-allowed i (track-kind t) ≡ true
@@ -135,10 +134,77 @@ type-allowed-flip N lent member anchor t i f h =
     ∙ sym (track-allowed N anchor t i f)
     ∙ h
 
--- a track of type 0 keeps it: so do all those of a file of mode 0x02
+-- a track of type 0 keeps it: so do all those of a file with no blocks
 pub plain-flip : (lent member : Bool) (t : Track) → track-kind t ≡ 0 → track-kind (flip-track lent member t) ≡ 0
 plain-flip lent member (plain categories) h = refl
 plain-flip lent member (one-bit c bits es) h = absurd (omega arith)
 plain-flip lent member (leaning true es) h = absurd (omega arith)
 plain-flip lent member (leaning false es) h = absurd (omega arith)
 plain-flip lent member (sparse category es) h = absurd (omega arith)
+
+-- ---- what a flip does to a type's number
+
+-- the kind of a flipped track
+pub flip-kind-is : (lent member : Bool) (t : Track) → track-kind (flip-track lent member t) ≡ flip-kind lent member (track-kind t)
+flip-kind-is lent member (plain categories) = refl
+flip-kind-is lent member (one-bit c bits es) = refl
+flip-kind-is lent member (leaning true es) = by (just-one lent member)
+  where
+    by : (b : Bool) → _≡_ {A = ℕ} (pick (just-one b true) 3 2) (pick b 2 3)
+    by true = refl
+    by false = refl
+flip-kind-is lent member (leaning false es) = by (just-one lent member)
+  where
+    by : (b : Bool) → _≡_ {A = ℕ} (pick (just-one b false) 3 2) (pick b 3 2)
+    by true = refl
+    by false = refl
+flip-kind-is lent true (sparse zero es) = refl
+flip-kind-is lent false (sparse zero es) = refl
+flip-kind-is lent true (sparse (suc zero) es) = refl
+flip-kind-is lent false (sparse (suc zero) es) = refl
+flip-kind-is lent true (sparse (suc (suc zero)) es) = refl
+flip-kind-is lent false (sparse (suc (suc zero)) es) = refl
+flip-kind-is lent true (sparse (suc (suc (suc zero))) es) = refl
+flip-kind-is lent false (sparse (suc (suc (suc zero))) es) = refl
+flip-kind-is lent true (sparse (suc (suc (suc (suc category)))) es) = refl
+flip-kind-is lent false (sparse (suc (suc (suc (suc category)))) es) = refl
+
+-- the type of a flipped body
+pub flip-type-is : (N : ℕ) (lent member : Bool) (anchor : List ℕ) (body : Body) → BodyFits N anchor body
+    → body-type (flip-body lent member body) ≡ flip-type lent member (body-type body)
+flip-type-is N lent member anchor body f =
+    let high : body-type body / 8 ≡ 0 = div-eq-of-lt (track-kind-small N anchor (body .main) f) in
+    flip-kind-is lent member (body .main) ∙ omega (arith, ap (flip-kind lent member) (body-kind N anchor body f))
+
+-- a record that is not in the set, nor leans on a member of it, keeps its type
+kind-stays : (lent member : Bool) (number : ℕ) → member || (leans number && lent) ≡ false → flip-kind lent member number ≡ number
+kind-stays lent true number e = never-both refl e
+kind-stays lent false zero e = refl
+kind-stays lent false (suc zero) e = refl
+kind-stays true false (suc (suc zero)) e = never-both refl e
+kind-stays false false (suc (suc zero)) e = refl
+kind-stays true false (suc (suc (suc zero))) e = never-both refl e
+kind-stays false false (suc (suc (suc zero))) e = refl
+kind-stays lent false (suc (suc (suc (suc zero)))) e = refl
+kind-stays lent false (suc (suc (suc (suc (suc zero))))) e = refl
+kind-stays lent false (suc (suc (suc (suc (suc (suc zero)))))) e = refl
+kind-stays lent false (suc (suc (suc (suc (suc (suc (suc zero))))))) e = refl
+kind-stays lent false (suc (suc (suc (suc (suc (suc (suc (suc number)))))))) e = refl
+
+pub flip-type-stays : (lent member : Bool) (type : ℕ) → member || (type-leans type && lent) ≡ false → flip-type lent member type ≡ type
+flip-type-stays lent member type e = omega (arith, kind-stays lent member (kind-of type) e)
+
+-- and it fits where the type did
+kind-small : (lent member : Bool) (number : ℕ) → number < 8 → flip-kind lent member number < 8
+kind-small lent member zero l = lit< tt
+kind-small lent member (suc zero) l = lit< tt
+kind-small lent member (suc (suc zero)) l = by-test (λ (n : ℕ). n < 8) (just-one lent member) (λ t. lit< tt) (λ t. lit< tt)
+kind-small lent member (suc (suc (suc zero))) l = by-test (λ (n : ℕ). n < 8) (just-one lent member) (λ t. lit< tt) (λ t. lit< tt)
+kind-small lent member (suc (suc (suc (suc zero)))) l = by-test (λ (n : ℕ). n < 8) member (λ t. lit< tt) (λ t. lit< tt)
+kind-small lent member (suc (suc (suc (suc (suc zero))))) l = lit< tt
+kind-small lent member (suc (suc (suc (suc (suc (suc zero)))))) l = by-test (λ (n : ℕ). n < 8) member (λ t. lit< tt) (λ t. lit< tt)
+kind-small lent member (suc (suc (suc (suc (suc (suc (suc zero))))))) l = lit< tt
+kind-small lent member (suc (suc (suc (suc (suc (suc (suc (suc number)))))))) l = absurd (omega arith)
+
+pub flip-type-small : (lent member : Bool) (type n : ℕ) → type < n * 8 → flip-type lent member type < n * 8
+flip-type-small lent member type n l = omega (arith, kind-small lent member (kind-of type) (omega arith))

@@ -4,9 +4,11 @@ pub mod NumbersLaws
 pub mod PackedLaws
 pub mod DifferencesLaws
 pub mod CategoryLaws
+pub mod ContainerLaws
 pub mod WriterLaws
 pub mod PairLaws
 pub mod WriteBackLaws
+pub mod ColumnsLaws
 pub mod BlocksLaws
 pub mod ArraysLaws
 pub mod OffsetsLaws

@@ -10,13 +10,16 @@ use lib.Dec.{eqb, leb, lit<, lit≤}
 use native.Mathlib.Omega.{arith}
 use borrow.Author.Tests.{leb-true, eqb-true, eq-eqb}
 use Rattle.format.specs.declared.FileVariant.{FileVariant}
-use Rattle.format.specs.Base.{pick, Below, Out, ok}
+use Rattle.format.specs.Base.{pick, Below, Out, ok, bind, need}
+use Rattle.format.specs.Limits.{most-variants}
 use Rattle.format.specs.Numbers.{read-bytes}
 use Rattle.format.specs.Packed.{Bits, one, two, four, eight, more, packed-size}
 use Rattle.format.specs.Variant.{next-variant, in-block}
-use Rattle.format.specs.Layout.{Fixed, most-variants, from-1-to, plain-mode, mode-covered, Form, form-of, flag-count, Columns, sum, block-count, cut, block-sizes, block-size, blocked-size, arrays-size, header-end, Layout, fixed-of, body-lengths, columns-of, block-starts, arrays-of, joined, plain-size, ColumnsPlain, ColumnsObey, type-allowed, TypesAllowed, LayoutObeys}
-use Rattle.format.specs.Header.{need-types, need-offsets, split-bodies}
-use Rattle.format.proofs.Rules.{Holds, by-test, by-need, by-bind, by-map, both}
+use Rattle.format.specs.Layout.{Fixed, from-1-to, unblocked, mode-covered, Form, form-of, flag-count, Columns, sum, block-count, cut, block-sizes}
+use Rattle.format.specs.Layout.{block-size, blocked-size, arrays-size, first-record, Layout, fixed-of, body-lengths, columns-of, block-starts, arrays-of}
+use Rattle.format.specs.Layout.{joined, fixed-type, fixed-size, ColumnsUnblocked, ColumnsObey, type-allowed, TypesAllowed, LayoutObeys}
+use Rattle.format.specs.Header.{type-place, need-types, need-offsets, split-bodies}
+use Rattle.format.proofs.Rules.{Holds, by-test, need-then, by-need, by-bind, by-map, both}
 use Rattle.format.proofs.NumbersLaws.{bytes-read-back, AreBytes, bytes-as-written}
 use Rattle.format.proofs.BlocksLaws.{cut-length, block-count-is, sizes-sum}
 use Rattle.format.proofs.ArraysLaws.{OffsetsFit, AllFit}
@@ -32,10 +35,20 @@ by-types Q K f v (type ∷ types) next h =
     by-need Q (type-allowed (in-block K v) type) _ _ _ (λ e. by-types Q K f (next-variant v) types next (λ g. h (e, g)))
 
 -- allowed types pass
-pub types-pass : {A : Type 0} (K : ℕ) (f : Fixed) (v : FileVariant) (types : List ℕ) (next : Out A) → TypesAllowed K v types → need-types K f v types next ≡ next
+pub types-pass : {A : Type 0} (K : ℕ) (f : Fixed) (v : FileVariant) (types : List ℕ) (next : Out A) → TypesAllowed K v types
+    → need-types K f v types next ≡ next
 unfolding need-types
 types-pass K f v [] next h = refl
 types-pass K f v (type ∷ types) next h = simp (h .0) (types-pass K f (next-variant v) types next (h .1))
+
+-- what follows them all may be said after each
+pub types-then : {A B : Type 0} (K : ℕ) (f : Fixed) (v : FileVariant) (types : List ℕ) (m : Out A) (next : A → List ℕ → Out B)
+    → bind (need-types K f v types m) next ≡ need-types K f v types (bind m next)
+unfolding need-types
+types-then K f v [] m next = refl
+types-then K f v (type ∷ types) m next =
+    need-then (type-allowed (in-block K v) type) 8 (type-place K f v) (need-types K f (next-variant v) types m) next
+    ∙ ap (need (type-allowed (in-block K v) type) 8 (type-place K f v)) (types-then K f (next-variant v) types m next)
 
 -- ---- rule 9, the offset fields
 
@@ -92,18 +105,18 @@ starts-count K start f lengths = starts-length start (block-sizes K f) lengths �
 
 -- a length for each variant
 pub lengths-counted : (f : Fixed) (c : Columns) → ColumnsObey f c → length (c .lengths) ≡ f .variants
-lengths-counted f c h = go (plain-mode f) h
+lengths-counted f c h = go (unblocked (f .mode)) h
   where
-    go : (b : Bool) → pick b (ColumnsPlain f c) (AllFit f c) → length (c .lengths) ≡ f .variants
-    go true g = ap length (g .lengths-same) ∙ length-replicate (f .variants) (plain-size (f .samples))
+    go : (b : Bool) → pick b (ColumnsUnblocked f c) (AllFit f c) → length (c .lengths) ≡ f .variants
+    go true g = ap length (g .lengths-same) ∙ length-replicate (f .variants) (fixed-size f)
     go false g = g .lengths-count
 
 -- a type for each variant
 pub types-counted : (f : Fixed) (c : Columns) → ColumnsObey f c → length (c .types) ≡ f .variants
-types-counted f c h = go (plain-mode f) h
+types-counted f c h = go (unblocked (f .mode)) h
   where
-    go : (b : Bool) → pick b (ColumnsPlain f c) (AllFit f c) → length (c .types) ≡ f .variants
-    go true g = ap length (g .types-zero) ∙ length-replicate (f .variants) 0
+    go : (b : Bool) → pick b (ColumnsUnblocked f c) (AllFit f c) → length (c .types) ≡ f .variants
+    go true g = ap length (g .types-same) ∙ length-replicate (f .variants) (fixed-type f)
     go false g = g .types-count
 
 -- ---- sums
@@ -146,7 +159,7 @@ from-1-to-positive most n e = leb-true 1 n (both (leb 1 n) (leb n most) e .0)
 
 -- a covered mode is a byte
 pub mode-byte : (mode : ℕ) → mode-covered mode ≡ true → mode < 256
-mode-byte mode e = go (eqb mode 0x02) (eqb mode 0x10) (eqb-true mode 0x02) (eqb-true mode 0x10) e
+mode-byte mode e = go (unblocked mode) (eqb mode 0x10) (eqb-true mode 0x02) (eqb-true mode 0x10) e
   where
     go : (a b : Bool) → (a ≡ true → mode ≡ 0x02) → (b ≡ true → mode ≡ 0x10) → a || b ≡ true → mode < 256
     go true b f g q = omega (arith, f refl)
@@ -190,12 +203,12 @@ few-blocks (suc k) (suc n) p q = div-le-of-le-mul (suc k) (omega (arith, suc-mul
 pub length-width-most : (f : Fixed) → form-of f .length-width ≤ 4
 length-width-most f = omega arith
 
--- in mode 0x10 a block has a variant, so there are at most as many blocks as variants
-pub block-count-most : (K : ℕ) (f : Fixed) → zero < K → plain-mode f ≡ false → zero < f .variants → block-count K f ≤ f .variants
+-- a block has a variant, so there are at most as many blocks as variants
+pub block-count-most : (K : ℕ) (f : Fixed) → zero < K → unblocked (f .mode) ≡ false → zero < f .variants → block-count K f ≤ f .variants
 block-count-most K f p e q = rw (block-count-is K f e) (few-blocks K (f .variants) p q)
 
 -- the arrays are not long: 28 bytes for each variant suffice
-pub arrays-small : (K : ℕ) (f : Fixed) → zero < K → plain-mode f ≡ false → zero < f .variants → arrays-size K f ≤ 28 * f .variants
+pub arrays-small : (K : ℕ) (f : Fixed) → zero < K → unblocked (f .mode) ≡ false → zero < f .variants → arrays-size K f ≤ 28 * f .variants
 unfolding arrays-size blocked-size
 arrays-small K f p e q =
     simp e (omega (
@@ -209,14 +222,14 @@ arrays-small K f p e q =
 -- each offset of a layout that obeys fits eight bytes
 pub offsets-small : (K : ℕ) (l : Layout) → zero < K → LayoutObeys K l → Below (256 ^ 8) (arrays-of K l .offsets)
 unfolding cut block-starts block-count
-offsets-small K l p h = go (plain-mode (fixed-of l)) refl
+offsets-small K l p h = go (unblocked (l .mode)) refl
   where
-    go : (b : Bool) → plain-mode (fixed-of l) ≡ b → Below (256 ^ 8) (arrays-of K l .offsets)
+    go : (b : Bool) → unblocked (l .mode) ≡ b → Below (256 ^ 8) (arrays-of K l .offsets)
     go true e = simp e tt
     go false e =
         let f : Fixed = fixed-of l in
         let g : AllFit f (columns-of l) = simp e at (h .columns) in
-        starts-below (256 ^ 8) (header-end K f) (block-sizes K f) (body-lengths l)
+        starts-below (256 ^ 8) (first-record K f) (block-sizes K f) (body-lengths l)
         (omega (
           arith,
           arrays-small K f p e (from-1-to-positive most-variants (f .variants) (h .fixed .variants)),

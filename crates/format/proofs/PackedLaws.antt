@@ -2,7 +2,8 @@
 -- Assumes nothing.
 use mathlib.Core.Path.{_≡_, refl, sym, ap, _∙_}
 use Prim.Native.Nat.{ℕ, zero, suc, _+_, _-_, _/_, _%_, _^_, _≤_, _<_, zero-le, suc-le-suc}
-use native.Mathlib.Nat.{mod-lt, div-add-mod', div-lt-iff-lt-mul, pow-suc, pow-zero, pow-succ', one-le-pow, div-one, div-div-eq-div-mul, mod-eq-of-lt, div-eq-of-lt, add-div-left, add-div-right, add-mod-left, zero-lt-suc, zero-add, suc-add, lt-div-mul-add}
+use native.Mathlib.Nat.{mod-lt, div-add-mod', div-lt-iff-lt-mul, pow-suc, pow-zero, pow-succ', one-le-pow, div-one, div-div-eq-div-mul, mod-eq-of-lt}
+use native.Mathlib.Nat.{div-eq-of-lt, add-div-left, add-div-right, add-mod-left, zero-lt-suc, zero-add, suc-add, lt-div-mul-add}
 use native.Mathlib.Numerals.{add-one}
 use mathlib.Core.List.{List, [], _∷_, _++_}
 use lib.ListN.{length, getD, List·getD-append}

@@ -9,7 +9,8 @@ use lib.Dec.{eqb, lit<}
 use native.Mathlib.Omega.{arith}
 use borrow.Author.Tests.{eqb-true}
 use Rattle.format.specs.Category.{exchange, exchange-if, exchange-all, just-one}
-use Rattle.format.specs.PairCode.{PairCode, code-1, code-2, code-3, code-5, code-6, code-9, pair-codes, pair, image, category-of, in-pair, Coded, coded, not-coded, seek, code-numbered}
+use Rattle.format.specs.PairCode.{PairCode, code-1, code-2, code-3, code-5, code-6, code-9, pair-codes, pair, image, category-of, in-pair, Coded, coded}
+use Rattle.format.specs.PairCode.{not-coded, seek, code-numbered}
 use Rattle.format.specs.Track.{image-if}
 use Rattle.format.proofs.Rules.{by-test}
 use Rattle.format.proofs.CategoryLaws.{exchange-eqb, just-one-joined}
@@ -138,7 +139,8 @@ bits-not-turned (x ∷ bits) = ap (_∷_ x) (bits-not-turned bits)
 -- ---- the table in code
 
 -- THE TABLE'S RULE, over every row at once: a list that f made has at each index what f gives there
-pub table-rule {ℓ} : {A : Type 0} {B : Type ℓ} (f : A → B) (xs : List A) (other : B) (last : A) (i : ℕ) → i < length xs → getD (map f xs) i other ≡ f (getD xs i last)
+pub table-rule {ℓ} : {A : Type 0} {B : Type ℓ} (f : A → B) (xs : List A) (other : B) (last : A) (i : ℕ) → i < length xs
+    → getD (map f xs) i other ≡ f (getD xs i last)
 table-rule f [] other last i l = absurd (omega arith)
 table-rule f (x ∷ xs) other last zero l = refl
 table-rule f (x ∷ xs) other last (suc i) l = table-rule f xs other last i (omega arith)

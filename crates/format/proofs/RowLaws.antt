@@ -5,16 +5,16 @@ use Prim.Native.Nat.{ℕ, zero, suc, _<_}
 use mathlib.Core.Bool.{Bool, true, false}
 use mathlib.Core.List.{List, [], _∷_, map}
 use lib.ListN.{length, set, replicate, length-map, length-set, length-replicate}
-use lib.Dec.{lit<}
-use native.Mathlib.Omega.{arith}
-use Rattle.format.specs.Base.{pick, Below, Out, bind}
+use Rattle.format.specs.Base.{Below, Out, bind}
 use Rattle.format.specs.Difflist.{Entry, Rule, Rising}
 use Rattle.format.specs.PairCode.{PairCode, category-of}
-use Rattle.format.specs.Track.{Kind, array, paired, against-anchor, against-category, no-kind, kind, leans-kind, leans, Track, plain, one-bit, leaning, sparse, track-kind, off-pair, off-category, off-anchor, rule, Fits, read-kind, apply, track-categories}
-use Rattle.format.specs.Body.{Body, body-type, BodyFits, ended, read-body, body-categories}
+use Rattle.format.specs.Track.{Kind, array, paired, against-anchor, against-category, no-kind, kind, leans-kind, Track, plain, one-bit, leaning, sparse}
+use Rattle.format.specs.Track.{off-pair, off-category, off-anchor, rule, Fits, read-kind, apply, track-categories, track-leans}
+use Rattle.format.specs.Body.{Body, BodyFits, ended, read-body, body-categories, type-leans, kind-of, body-leans}
 use Rattle.format.specs.File.{next-anchor}
 use Rattle.format.proofs.Rules.{never-both, by-test}
 use Rattle.format.proofs.CategoryLaws.{exchange-all-length, exchange-all-below}
+use Rattle.format.proofs.TrackLaws.{category-below}
 use Rattle.format.proofs.PairLaws.{category-of-below}
 
 -- ---- rows
@@ -54,41 +54,28 @@ replicate-below : (m n value : ℕ) → value < m → Below m (replicate n value
 replicate-below m zero value l = tt
 replicate-below m (suc n) value l = (l, replicate-below m n value l)
 
--- kinds 2 and 3 lean
-pub leaning-leans : (inverted : Bool) → leans (pick inverted 3 2) ≡ true
-leaning-leans true = refl
-leaning-leans false = refl
-
--- what kinds 4, 6 and 7 list against is a category
-pub category-below : (category : ℕ) → kind (suc (suc (suc (suc category)))) ≡ against-category category → category < 4
-category-below zero h = lit< tt
-category-below (suc zero) h = lit< tt
-category-below (suc (suc zero)) h = lit< tt
-category-below (suc (suc (suc zero))) h = lit< tt
-category-below (suc (suc (suc (suc category)))) h = let z : _≡_ {A = ℕ} 0 1 = cc in absurd (omega arith)
-
 -- a track that fits stands for a row, if what it leans on is one
-pub track-row : (N : ℕ) (anchor : List ℕ) (t : Track) → Fits N anchor t → (leans (track-kind t) ≡ true → IsRow N anchor)
+pub track-row : (N : ℕ) (anchor : List ℕ) (t : Track) → Fits N anchor t → (track-leans t ≡ true → IsRow N anchor)
     → IsRow N (track-categories N anchor t)
 track-row N anchor (plain categories) f a = f
 track-row N anchor (one-bit c bits es) f a =
     apply-row (rule N (off-pair c)) N es (map (category-of c) bits) (f .1) (length-map bits (category-of c) ∙ f .0, pair-below c bits)
 track-row N anchor (leaning inverted es) f a =
-    let r : IsRow N (apply es anchor) = apply-row (rule N (off-anchor anchor)) N es anchor f (a (leaning-leans inverted)) in
+    let r : IsRow N (apply es anchor) = apply-row (rule N (off-anchor anchor)) N es anchor f (a refl) in
     (exchange-all-length inverted (apply es anchor) ∙ r .0, exchange-all-below inverted (apply es anchor) (r .1))
 track-row N anchor (sparse category es) f a =
     apply-row (rule N (off-category category)) N es (replicate N category) (f .1)
     (length-replicate N category, replicate-below 4 N category (category-below category (f .0)))
 
 -- the same of a body
-pub body-row : (N : ℕ) (anchor : List ℕ) (body : Body) → BodyFits N anchor body → (leans (body-type body) ≡ true → IsRow N anchor)
+pub body-row : (N : ℕ) (anchor : List ℕ) (body : Body) → BodyFits N anchor body → (body-leans body ≡ true → IsRow N anchor)
     → IsRow N (body-categories N anchor body)
 body-row N anchor body f a = track-row N anchor (body .main) f a
 
 -- and then what the next one leans on is a row
-pub next-anchor-row : (N : ℕ) (anchor : List ℕ) (body : Body) → BodyFits N anchor body → (leans (body-type body) ≡ true → IsRow N anchor)
-    → IsRow N (next-anchor (body-type body) anchor (body-categories N anchor body))
-next-anchor-row N anchor body f a = by-test (IsRow N) (leans (body-type body)) a (λ t. body-row N anchor body f a)
+pub next-anchor-row : (N : ℕ) (anchor : List ℕ) (body : Body) → BodyFits N anchor body → (body-leans body ≡ true → IsRow N anchor)
+    → IsRow N (next-anchor (body-leans body) anchor (body-categories N anchor body))
+next-anchor-row N anchor body f a = by-test (IsRow N) (body-leans body) a (λ t. body-row N anchor body f a)
 
 -- ---- a record that does not lean
 
@@ -103,32 +90,32 @@ kind-unused end N anchor other (against-category category) bs h = refl
 kind-unused end N anchor other no-kind bs h = refl
 
 -- it is read alike over every anchor
-pub anchor-unused : (end N : ℕ) (anchor other : List ℕ) (number : ℕ) (bs : List ℕ) → leans number ≡ false
-    → read-body end N anchor number bs ≡ read-body end N other number bs
+pub anchor-unused : (end N : ℕ) (anchor other : List ℕ) (type : ℕ) (bs : List ℕ) → type-leans type ≡ false
+    → read-body end N anchor type bs ≡ read-body end N other type bs
 unfolding read-body
-anchor-unused end N anchor other number bs h =
-    ap (λ (m : Out Track). bind m (λ track left. ended end (record { main = track }) left)) (kind-unused end N anchor other (kind number) bs h)
+anchor-unused end N anchor other type bs h =
+    ap (λ (m : Out Track). bind m (λ track left. ended end (record { main = track }) left)) (kind-unused end N anchor other (kind (kind-of type)) bs h)
 
 -- it stands for the same row
-pub categories-anchor-unused : (N : ℕ) (anchor other : List ℕ) (t : Track) → leans (track-kind t) ≡ false
+pub categories-anchor-unused : (N : ℕ) (anchor other : List ℕ) (t : Track) → track-leans t ≡ false
     → track-categories N anchor t ≡ track-categories N other t
 categories-anchor-unused N anchor other (plain categories) h = refl
 categories-anchor-unused N anchor other (one-bit c bits es) h = refl
-categories-anchor-unused N anchor other (leaning inverted es) h = never-both (leaning-leans inverted) h
+categories-anchor-unused N anchor other (leaning inverted es) h = never-both refl h
 categories-anchor-unused N anchor other (sparse category es) h = refl
 
 -- the same of a body
-pub row-anchor-unused : (N : ℕ) (anchor other : List ℕ) (body : Body) → leans (body-type body) ≡ false
+pub row-anchor-unused : (N : ℕ) (anchor other : List ℕ) (body : Body) → body-leans body ≡ false
     → body-categories N anchor body ≡ body-categories N other body
 row-anchor-unused N anchor other body h = categories-anchor-unused N anchor other (body .main) h
 
 -- and it fits alike
-pub fits-anchor-unused : (N : ℕ) (anchor other : List ℕ) (t : Track) → leans (track-kind t) ≡ false → Fits N anchor t → Fits N other t
+pub fits-anchor-unused : (N : ℕ) (anchor other : List ℕ) (t : Track) → track-leans t ≡ false → Fits N anchor t → Fits N other t
 fits-anchor-unused N anchor other (plain categories) h f = f
 fits-anchor-unused N anchor other (one-bit c bits es) h f = f
-fits-anchor-unused N anchor other (leaning inverted es) h f = never-both (leaning-leans inverted) h
+fits-anchor-unused N anchor other (leaning inverted es) h f = never-both refl h
 fits-anchor-unused N anchor other (sparse category es) h f = f
 
 -- the same of a body
-pub body-fits-anchor-unused : (N : ℕ) (anchor other : List ℕ) (body : Body) → leans (body-type body) ≡ false → BodyFits N anchor body → BodyFits N other body
+pub body-fits-anchor-unused : (N : ℕ) (anchor other : List ℕ) (body : Body) → body-leans body ≡ false → BodyFits N anchor body → BodyFits N other body
 body-fits-anchor-unused N anchor other body h f = fits-anchor-unused N anchor other (body .main) h f

@@ -2,45 +2,52 @@
 -- Assumes nothing.
 use mathlib.Core.Path.{_≡_, refl}
 use Prim.Native.Nat.{ℕ, zero, suc, _≤_, _<_}
-use mathlib.Core.Bool.{Bool, true, false, _&&_}
+use mathlib.Core.Bool.{Bool, true, false, _&&_, _||_}
 use mathlib.Core.List.{List, [], _∷_, _++_}
 use lib.ListN.{take, drop}
 use native.Mathlib.Omega.{arith}
 use native.Mathlib.Decide.{decLe}
 use native.Mathlib.Nat.{lt-of-not-le}
-use Rattle.format.specs.Base.{pick, Out, ok, refuse, bind, map-out, need, numbered, Below}
+use Rattle.format.specs.Base.{pick, Out, ok, bind, map-out, need, numbered, Below, refused}
 
 -- P holds of what was read, if anything was
 abbrev pub Holds : {A : Type 0} → (A → List ℕ → Type 0) → Out A → Type 0
 Holds P (ok a left) = P a left
-Holds P (refuse number place) = Unit {0}
+Holds P (refused why) = Unit {0}
 
 -- to show P of a choice, show it of each side under the test's outcome
 pub by-test {ℓ κ} : {X : Type ℓ} (P : X → Type κ) (t : Bool) {x y : X} → (t ≡ true → P x) → (t ≡ false → P y) → P (pick t x y)
 by-test P true f g = f refl
 by-test P false f g = g refl
 
-pub by-need : {A : Type 0} (Q : A → List ℕ → Type 0) (t : Bool) (number place : ℕ) (next : Out A) → (t ≡ true → Holds Q next) → Holds Q (need t number place next)
+pub by-need : {A : Type 0} (Q : A → List ℕ → Type 0) (t : Bool) (number place : ℕ) (next : Out A) → (t ≡ true → Holds Q next)
+    → Holds Q (need t number place next)
 by-need Q true number place next f = f refl
 by-need Q false number place next f = tt
+
+-- what follows a rule may be said within it
+pub need-then : {A B : Type 0} (t : Bool) (number place : ℕ) (m : Out A) (next : A → List ℕ → Out B)
+    → bind (need t number place m) next ≡ need t number place (bind m next)
+need-then true number place m next = refl
+need-then false number place m next = refl
 
 pub by-bind : {A B : Type 0} (P : A → List ℕ → Type 0) (Q : B → List ℕ → Type 0) (m : Out A) (f : A → List ℕ → Out B)
     → Holds P m → ((a : A) (left : List ℕ) → P a left → Holds Q (f a left)) → Holds Q (bind m f)
 by-bind P Q (ok a left) f h k = k a left h
-by-bind P Q (refuse number place) f h k = tt
+by-bind P Q (refused why) f h k = tt
 
 pub by-map : {A B : Type 0} (P : A → List ℕ → Type 0) (Q : B → List ℕ → Type 0) (m : Out A) (f : A → B)
     → Holds P m → ((a : A) (left : List ℕ) → P a left → Q (f a) left) → Holds Q (map-out f m)
 by-map P Q (ok a left) f h k = k a left h
-by-map P Q (refuse number place) f h k = tt
+by-map P Q (refused why) f h k = tt
 
 pub by-numbered : {A : Type 0} (P : A → List ℕ → Type 0) (number : ℕ) (m : Out A) → Holds P m → Holds P (numbered number m)
 by-numbered P number (ok a left) h = h
-by-numbered P number (refuse other place) h = tt
+by-numbered P number (refused why) h = tt
 
 pub weaken : {A : Type 0} (P Q : A → List ℕ → Type 0) (m : Out A) → ((a : A) (left : List ℕ) → P a left → Q a left) → Holds P m → Holds Q m
 weaken P Q (ok a left) k h = k a left h
-weaken P Q (refuse number place) k h = tt
+weaken P Q (refused why) k h = tt
 
 -- a test has one outcome
 pub never-both {ℓ} : {X : Type ℓ} {t : Bool} → t ≡ true → t ≡ false → X
@@ -50,6 +57,11 @@ never-both p q = let z : _≡_ {A = ℕ} 0 1 = cc in absurd (omega arith)
 pub both : (a b : Bool) → a && b ≡ true → (a ≡ true) × (b ≡ true)
 both true b h = (refl, h)
 both false b h = never-both h refl
+
+-- one of two tests that holds
+pub either {ℓ} : {X : Type ℓ} (a b : Bool) → a || b ≡ true → (a ≡ true → X) → (b ≡ true → X) → X
+either true b h f g = f refl
+either false b h f g = g h
 
 -- one order or the other
 pub split {ℓ} : {X : Type ℓ} (a b : ℕ) → (a ≤ b → X) → (b < a → X) → X

@@ -9,14 +9,46 @@ use lib.Dec.{leb, lit<}
 use native.Mathlib.Omega.{arith}
 use borrow.Author.Tests.{leb-true}
 use Rattle.format.specs.Base.{Below, Bytes, ok}
+use Rattle.format.specs.Limits.{most-samples}
 use Rattle.format.specs.Packed.{one, two, packed, read-packed}
 use Rattle.format.specs.Difflist.{Entry, Rising, number-width, list-bytes, read-list}
 use Rattle.format.specs.PairCode.{PairCode, pair, Coded, coded, not-coded, code-numbered}
-use Rattle.format.specs.Track.{kind, Track, plain, one-bit, leaning, sparse, track-kind, off-pair, off-category, off-anchor, rule, Fits, bit-number, bit-set, track-bytes, as-read, read-pair-code, read-listed, read-kind, read-track}
+use Rattle.format.specs.Track.{kind, Track, plain, one-bit, leaning, sparse, track-kind, off-pair, off-category, off-anchor, rule, Fits, bit-number}
+use Rattle.format.specs.Track.{bit-set, track-bytes, as-read, read-pair-code, read-listed, read-kind, read-track, track-leans, against-category, leans}
 use Rattle.format.proofs.Rules.{Holds, by-test, by-map, by-bind, below-after, below-append}
 use Rattle.format.proofs.PackedLaws.{packed-read-back, packed-as-written, packed-are-bytes, ArePacked}
 use Rattle.format.proofs.DifflistLaws.{IsList, list-read-back, list-as-written, list-are-bytes}
 use Rattle.format.proofs.PairLaws.{IsCode, code-read-back, code-as-written, code-is-byte}
+
+-- ---- kinds
+
+-- what kinds 4, 6 and 7 list against is a category
+pub category-below : (category : ℕ) → kind (suc (suc (suc (suc category)))) ≡ against-category category → category < 4
+category-below zero h = lit< tt
+category-below (suc zero) h = lit< tt
+category-below (suc (suc zero)) h = lit< tt
+category-below (suc (suc (suc zero))) h = lit< tt
+category-below (suc (suc (suc (suc category)))) h = let z : _≡_ {A = ℕ} 0 1 = cc in absurd (omega arith)
+
+-- a track that fits has a kind below 8
+pub track-kind-small : (N : ℕ) (anchor : List ℕ) (t : Track) → Fits N anchor t → track-kind t < 8
+track-kind-small N anchor (plain categories) f = lit< tt
+track-kind-small N anchor (one-bit c bits es) f = lit< tt
+track-kind-small N anchor (leaning true es) f = lit< tt
+track-kind-small N anchor (leaning false es) f = lit< tt
+track-kind-small N anchor (sparse category es) f = omega (arith, category-below category (f .0))
+
+-- it leans exactly where its kind does
+pub leans-track : (t : Track) → leans (track-kind t) ≡ track-leans t
+leans-track (plain categories) = refl
+leans-track (one-bit c bits es) = refl
+leans-track (leaning true es) = refl
+leans-track (leaning false es) = refl
+leans-track (sparse zero es) = refl
+leans-track (sparse (suc zero) es) = refl
+leans-track (sparse (suc (suc zero)) es) = refl
+leans-track (sparse (suc (suc (suc zero))) es) = refl
+leans-track (sparse (suc (suc (suc (suc category)))) es) = refl
 
 -- ---- bits
 
@@ -42,7 +74,7 @@ bits-as-written (suc (suc n) ∷ numbers) h = absurd (omega (arith, h .0))
 -- ---- read back
 
 -- the numbers of a list are wide enough for its samples
-pub wide-enough : (N : ℕ) → N ≤ 65536 → N ≤ 256 ^ number-width N
+pub wide-enough : (N : ℕ) → N ≤ most-samples → N ≤ 256 ^ number-width N
 wide-enough N h = by-test (λ (w : ℕ). N ≤ 256 ^ w) (leb N 256) (λ t. leb-true N 256 t) (λ t. h)
 
 -- a code's number is read as the code
@@ -51,7 +83,7 @@ unfolding read-pair-code
 pair-code-read-back end c left = simp code-read-back
 
 -- a list that obeys, written out, is read as the track that it makes
-listed-read-back : (track : List Entry → Track) (end N : ℕ) (may : ℕ → ℕ → Bool) (es : List Entry) (left : List ℕ) → N ≤ 65536 → Rising (rule N may) 0 es
+listed-read-back : (track : List Entry → Track) (end N : ℕ) (may : ℕ → ℕ → Bool) (es : List Entry) (left : List ℕ) → N ≤ most-samples → Rising (rule N may) 0 es
     → read-listed track end N may (list-bytes (number-width N) es ++ left) ≡ ok (track es) left
 unfolding read-listed
 listed-read-back track end N may es left l g =
@@ -59,7 +91,7 @@ listed-read-back track end N may es left l g =
     simp (list-read-back (rule N may) (number-width N) end es left m (wide-enough N l) g)
 
 -- a track that fits, written out, is read as itself
-pub track-read-back : (end N : ℕ) (anchor : List ℕ) (t : Track) (left : List ℕ) → N ≤ 65536 → Fits N anchor t
+pub track-read-back : (end N : ℕ) (anchor : List ℕ) (t : Track) (left : List ℕ) → N ≤ most-samples → Fits N anchor t
     → read-track end N anchor (track-kind t) (track-bytes N t ++ left) ≡ ok t left
 unfolding read-kind track-bytes
 track-read-back end N anchor (plain categories) left l f =
@@ -69,7 +101,14 @@ track-read-back end N anchor (one-bit c bits es) left l f =
     let rest : List ℕ = list-bytes (number-width N) es ++ left in
     let q : read-packed end one N (packed one (map bit-number bits) ++ rest) ≡ ok (map bit-number bits) rest
     = packed-read-back end one N (map bit-number bits) rest (length-map bits bit-number ∙ f .0) (bits-below bits) in
-    simp (append-assoc (packed one (map bit-number bits)), pair-code-read-back, q, bits-read-back, listed-read-back (one-bit c bits) end N (off-pair c) es left l (f .1))
+    simp (
+      append-assoc (packed one (map bit-number bits)),
+      pair-code-read-back,
+      q,
+      bits-read-back,
+      listed-read-back (one-bit c bits) end N
+          (off-pair c) es left l (f .1),
+    )
 track-read-back end N anchor (leaning true es) left l f = listed-read-back (leaning true) end N (off-anchor anchor) es left l f
 track-read-back end N anchor (leaning false es) left l f = listed-read-back (leaning false) end N (off-anchor anchor) es left l f
 track-read-back end N anchor (sparse category es) left l f = rw (f .0) (listed-read-back (sparse category) end N (off-category category) es left l (f .1))
@@ -116,7 +155,8 @@ track-as-written end N anchor (suc zero) bs y =
     by-bind (IsPairCode bs) (IsTrack N anchor 1 bs) (read-pair-code end bs) _ (pair-code-as-written end bs) (λ c left₁ i.
     let y₁ : Bytes left₁ = (rw i at y) .1 in
     by-bind (ArePacked one N left₁) (IsTrack N anchor 1 bs) (read-packed end one N left₁) _ (packed-as-written end one N left₁ y₁) (λ numbers left₂ h.
-    by-listed (IsTrack N anchor 1 bs) (one-bit c (map bit-set numbers)) end N (off-pair c) left₂ (below-after 256 (packed one numbers) left₂ (rw (h .written) at y₁))
+    by-listed (IsTrack N anchor 1 bs) (one-bit c (map bit-set numbers)) end N (off-pair c) left₂
+    (below-after 256 (packed one numbers) left₂ (rw (h .written) at y₁))
     (λ es left w g.
     let b : map bit-number (map bit-set numbers) ≡ numbers = bits-as-written numbers (h .small) in
     record {
@@ -140,7 +180,7 @@ track-as-written end N anchor (suc (suc (suc (suc (suc (suc (suc (suc number))))
 -- ---- what is written are bytes
 
 -- a track that fits is written in bytes
-pub track-are-bytes : (N : ℕ) (anchor : List ℕ) (t : Track) → N ≤ 65536 → Fits N anchor t → Bytes (track-bytes N t)
+pub track-are-bytes : (N : ℕ) (anchor : List ℕ) (t : Track) → N ≤ most-samples → Fits N anchor t → Bytes (track-bytes N t)
 unfolding track-bytes
 track-are-bytes N anchor (plain categories) l f = packed-are-bytes two categories (f .1)
 track-are-bytes N anchor (one-bit c bits es) l f = (

@@ -13,7 +13,8 @@ use Rattle.format.specs.Base.{pick, ok}
 use Rattle.format.specs.Category.{exchange-all}
 use Rattle.format.specs.Difflist.{Entry, Rule, Rising}
 use Rattle.format.specs.PairCode.{PairCode, code-1, code-2, code-3, code-5, code-6, code-9, pair, category-of, in-pair, coded}
-use Rattle.format.specs.Track.{Kind, against-category, kind, leans, Track, plain, one-bit, leaning, sparse, track-kind, Fits, rule, off-pair, off-category, off-anchor, put, apply, track-categories}
+use Rattle.format.specs.Track.{Kind, against-category, kind, leans, Track, plain, one-bit, leaning, sparse, track-kind, Fits, rule, off-pair}
+use Rattle.format.specs.Track.{off-category, off-anchor, put, apply, track-categories}
 use Rattle.format.specs.Writer.{differences, bits-for, pair-track, kind-track, track-for, track-code, cleared}
 use Rattle.format.proofs.Rules.{never-both, by-test}
 use Rattle.format.proofs.CategoryLaws.{exchange-all-back}
@@ -27,7 +28,8 @@ off-is x y h e = never-both h (ap not (eq-eqb x y e))
 -- ---- lists against an anchor or a category
 
 -- the differences of a list's row are the list
-pub differences-apply : (N : ℕ) (may : ℕ → ℕ → Bool) (base : List ℕ) (es : List Entry) → NeedNot (rule N may) 0 base → length base ≡ N → Rising (rule N may) 0 es
+pub differences-apply : (N : ℕ) (may : ℕ → ℕ → Bool) (base : List ℕ) (es : List Entry) → NeedNot (rule N may) 0 base → length base ≡ N
+    → Rising (rule N may) 0 es
     → differences 0 base (apply es base) ≡ es
 differences-apply N may base es k e g =
     ap (differences 0 base) (put-patch (λ (x : Entry). x .value) (rule N may) 0 [] base es refl (omega arith) g)
@@ -72,7 +74,8 @@ module _ (N : ℕ) (c : PairCode) where
   bits-back i [] [] g = refl
   bits-back i [] (e ∷ es) g = refl
   bits-back i (b ∷ bits) [] g = ap₂ _∷_ (higher-bit c b) (bits-back (suc i) bits [] tt)
-  bits-back i (b ∷ bits) (e ∷ es) g = go (eqb (e .sample) i) refl (λ t. bits-back (suc i) bits es (next t)) (λ t. bits-back (suc i) bits (e ∷ es) (rises-past (rule N (off-pair c)) i e es g t))
+  bits-back i (b ∷ bits) (e ∷ es) g =
+      go (eqb (e .sample) i) refl (λ t. bits-back (suc i) bits es (next t)) (λ t. bits-back (suc i) bits (e ∷ es) (rises-past (rule N (off-pair c)) i e es g t))
     where
       next : eqb (e .sample) i ≡ true → Rising (rule N (off-pair c)) (suc i) es
       next t = subst (λ (s : ℕ). Rising (rule N (off-pair c)) (suc s) es) (eqb-true (e .sample) i t) (g .1)
@@ -114,7 +117,8 @@ unfolding patch
 clear-length i bits [] = refl
 clear-length i [] (e ∷ es) = refl
 clear-length i (b ∷ bits) (e ∷ es) =
-    by-test (λ (x : List Bool). length x ≡ suc (length bits)) (eqb (e .sample) i) (λ t. ap suc (clear-length (suc i) bits es)) (λ t. ap suc (clear-length (suc i) bits (e ∷ es)))
+    by-test (λ (x : List Bool). length x ≡ suc (length bits)) (eqb (e .sample) i) (λ t. ap suc (clear-length (suc i) bits es))
+    (λ t. ap suc (clear-length (suc i) bits (e ∷ es)))
 
 -- a one-bit track's row gives the track back, the bits of listed samples cleared
 pair-back : (N : ℕ) (c : PairCode) (bits : List Bool) (es : List Entry) → length bits ≡ N → Rising (rule N (off-pair c)) 0 es
@@ -164,4 +168,6 @@ track-back N anchor (sparse b es) f l n = go b (f .0) (sparse-back N _ b es n (f
     go : (b : ℕ) → kind (suc (suc (suc (suc b)))) ≡ against-category b
         → differences 0 (replicate (length (apply es (replicate N b))) b) (apply es (replicate N b)) ≡ es
         → kind-track (kind (suc (suc (suc (suc b))))) 0 (pick (leans (suc (suc (suc (suc b))))) anchor []) (apply es (replicate N b)) ≡ ok (sparse b es) []
-    go b k e = ap (λ (x : Kind). kind-track x 0 (pick (leans (suc (suc (suc (suc b))))) anchor []) (apply es (replicate N b))) k ∙ ap (λ (xs : List Entry). ok (sparse b xs) []) e
+    go b k e =
+        ap (λ (x : Kind). kind-track x 0 (pick (leans (suc (suc (suc (suc b))))) anchor []) (apply es (replicate N b))) k
+        ∙ ap (λ (xs : List Entry). ok (sparse b xs) []) e

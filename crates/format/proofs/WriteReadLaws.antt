@@ -7,13 +7,15 @@ use mathlib.Core.List.{List, [], _∷_}
 use lib.ListN.{length}
 use lib.Dec.{eqb, ltb, leb}
 use borrow.Author.Tests.{ltb-true, lt-ltb, le-leb, eq-eqb, eqb-true}
-use Rattle.format.specs.Base.{pick, Below, Bytes, Out, ok, refuse, map-out}
+use Rattle.format.specs.Base.{pick, Below, Bytes, Out, ok, map-out, refused}
+use Rattle.format.specs.Limits.{most-samples}
 use Rattle.format.specs.Track.{leans, Track, plain, one-bit, leaning, sparse, track-kind, track-bytes, track-categories}
-use Rattle.format.specs.Body.{Body, read-body, body-categories}
-use Rattle.format.specs.Layout.{from-1-to, most-samples}
+use Rattle.format.specs.Body.{Body, read-body, body-categories, type-leans, kind-of}
+use Rattle.format.specs.Layout.{from-1-to}
 use Rattle.format.specs.Writer.{track-for, need-categories, write-record, track-code, cleared}
 use Rattle.format.proofs.Rules.{Holds, by-test, by-need, by-bind}
 use Rattle.format.proofs.RowLaws.{IsRow, body-row}
+use Rattle.format.proofs.TrackLaws.{leans-track}
 use Rattle.format.proofs.BodyLaws.{body-read-back, record-exactly}
 use Rattle.format.proofs.OffsetsLaws.{from-1-to-most}
 use Rattle.format.proofs.WriterLaws.{Writes, track-for-writes}
@@ -37,18 +39,20 @@ categories-pass i (c ∷ categories) next h = simp (lt-ltb c 4 (h .0)) (categori
 
 itself : {A : Type 0} (m : Out A) → Holds (λ (a : A) (left : List ℕ). m ≡ ok a left) m
 itself (ok a left) = refl
-itself (refuse number place) = tt
+itself (refused why) = tt
 
 -- the record is read back as the categories, wherever in a file it stands
 abbrev pub ReadsBack : ℕ → List ℕ → List ℕ → List ℕ → List ℕ → Type 0
 ReadsBack number lent categories bs left =
     ((end : ℕ) → map-out (body-categories (length categories) lent) (read-body end (length categories) lent number bs) ≡ ok categories []) × (left ≡ [])
 
-writes-reads : (number : ℕ) (lent categories : List ℕ) (track : Track) (left : List ℕ) → length categories ≤ 65536 → Writes number lent categories track left
+writes-reads : (number : ℕ) (lent categories : List ℕ) (track : Track) (left : List ℕ) → length categories ≤ most-samples
+    → Writes number lent categories track left
     → ReadsBack number lent categories (track-bytes (length categories) track) []
 writes-reads number lent categories track left l w = (
   λ end.
-      ap (λ (k : ℕ). map-out (body-categories (length categories) lent) (read-body end (length categories) lent k (track-bytes (length categories) track))) (sym (w .kind-is))
+      ap (λ (k : ℕ). map-out (body-categories (length categories) lent) (read-body end (length categories) lent k (track-bytes (length categories) track)))
+      (sym (w .kind-is))
       ∙ ap (map-out (body-categories (length categories) lent)) (body-read-back end (length categories) lent (record { main = track }) l (w .fits))
       ∙ ap (λ (row : List ℕ). ok row []) (w .stands-for),
   refl,
@@ -89,15 +93,16 @@ lent-fits t anchor N h = go (leans (track-kind t)) h
     go false h = refl
 
 -- the writer gives the record's own bytes, the bits of listed samples cleared, into an output that has room for them
-pub read-write : (end N : ℕ) (anchor : List ℕ) (number : ℕ) (bs : List ℕ) (body : Body) (room : ℕ) → from-1-to most-samples N ≡ true → Bytes bs
-    → (leans number ≡ true → IsRow N anchor) → read-body end N anchor number bs ≡ ok body [] → length (track-bytes N (cleared (body .main))) ≤ room
-    → write-record (body-categories N anchor body) number (track-code (body .main)) (lent-for (body .main) anchor) room ≡ ok (track-bytes N (cleared (body .main))) []
+pub read-write : (end N : ℕ) (anchor : List ℕ) (type : ℕ) (bs : List ℕ) (body : Body) (room : ℕ) → from-1-to most-samples N ≡ true → Bytes bs
+    → (type-leans type ≡ true → IsRow N anchor) → read-body end N anchor type bs ≡ ok body [] → length (track-bytes N (cleared (body .main))) ≤ room
+    → write-record (body-categories N anchor body) (kind-of type) (track-code (body .main)) (lent-for (body .main) anchor) room
+    ≡ ok (track-bytes N (cleared (body .main))) []
 unfolding write-record
-read-write end N anchor number bs body room sized y row e fits =
+read-write end N anchor type bs body room sized y row e fits =
     let t : Track = body .main in
-    let h = record-exactly end N anchor number bs body (from-1-to-most most-samples N sized) y .0 e in
+    let h = record-exactly end N anchor type bs body (from-1-to-most most-samples N sized) y .0 e in
     let leaning-row : leans (track-kind t) ≡ true → IsRow N anchor = λ q. row (ap leans (sym (h .0)) ∙ q) in
-    let is-row : IsRow N (track-categories N anchor t) = body-row N anchor body (h .1) leaning-row in
+    let is-row : IsRow N (track-categories N anchor t) = body-row N anchor body (h .1) (λ q. leaning-row (leans-track t ∙ q)) in
     let back : track-for (track-kind t) (track-code t) (lent-for t anchor) (track-categories N anchor t) ≡ ok (cleared t) []
     = track-back N anchor t (h .1) (λ q. leaning-row q .0) (is-row .0) in
     let row-below : Below 4 (track-categories N anchor t) = is-row .1 in

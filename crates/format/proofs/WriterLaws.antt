@@ -12,7 +12,8 @@ use borrow.Author.Tests.{ne-eqb, eqb-true}
 use Rattle.format.specs.Base.{pick, Below}
 use Rattle.format.specs.Category.{exchange-all}
 use Rattle.format.specs.PairCode.{PairCode, pair, category-of, in-pair, Coded, coded, not-coded, code-numbered}
-use Rattle.format.specs.Track.{against-category, kind, leans, Track, one-bit, leaning, sparse, track-kind, Fits, off-pair, off-category, off-anchor, track-categories}
+use Rattle.format.specs.Track.{against-category, kind, leans, Track, one-bit, leaning, sparse, track-kind, Fits, off-pair, off-category, off-anchor}
+use Rattle.format.specs.Track.{track-categories}
 use Rattle.format.specs.Writer.{differences, bits-for, pair-track, kind-track, track-for}
 use Rattle.format.proofs.Rules.{Holds, by-need}
 use Rattle.format.proofs.CategoryLaws.{exchange-all-twice, exchange-all-none, exchange-all-below, just-one-self}
@@ -55,12 +56,14 @@ writes-pair lent categories c f =
       whole = refl;
     }
   where
-    base-at : (c : PairCode) (cs : List ℕ) (j : ℕ) → j < length cs → getD (map (category-of c) (bits-for c cs)) j 1 ≡ category-of c (eqb (getD cs j 0) (pair c .higher))
+    base-at : (c : PairCode) (cs : List ℕ) (j : ℕ) → j < length cs
+        → getD (map (category-of c) (bits-for c cs)) j 1 ≡ category-of c (eqb (getD cs j 0) (pair c .higher))
     base-at c [] j l = absurd (omega arith)
     base-at c (x ∷ cs) zero l = refl
     base-at c (x ∷ cs) (suc j) l = base-at c cs j (omega arith)
 
-    may : (c : PairCode) (cs : List ℕ) (j : ℕ) → j < length (map (category-of c) (bits-for c cs)) → (getD cs j 0 ≡ getD (map (category-of c) (bits-for c cs)) j 1 → ⊥)
+    may : (c : PairCode) (cs : List ℕ) (j : ℕ) → j < length (map (category-of c) (bits-for c cs))
+        → (getD cs j 0 ≡ getD (map (category-of c) (bits-for c cs)) j 1 → ⊥)
         → off-pair c (0 + j) (getD cs j 0) ≡ true
     may c cs j l d =
         let m : j < length cs = omega (arith, length-map (bits-for c cs) (category-of c), length-map cs (λ (x : ℕ). eqb x (pair c .higher))) in
@@ -104,7 +107,8 @@ writes-sparse base number lent categories q k f =
 pub track-for-writes : (number code : ℕ) (lent categories : List ℕ) → Below 4 categories → (leans number ≡ true → length lent ≡ length categories)
     → Holds (Writes number lent categories) (track-for number code lent categories)
 unfolding kind-track
-track-for-writes zero code lent categories f l = by-need _ (eqb code 0) _ _ _ (λ t. record { kind-is = refl; fits = (refl, f); stands-for = refl; whole = refl })
+track-for-writes zero code lent categories f l =
+    by-need _ (eqb code 0) _ _ _ (λ t. record { kind-is = refl; fits = (refl, f); stands-for = refl; whole = refl })
 track-for-writes (suc zero) code lent categories f l = go (code-numbered code)
   where
     go : (found : Coded) → Holds (Writes 1 lent categories) (pair-track categories found)
@@ -114,6 +118,8 @@ track-for-writes (suc (suc zero)) code lent categories f l = by-need _ (eqb code
 track-for-writes (suc (suc (suc zero))) code lent categories f l = by-need _ (eqb code 0) _ _ _ (λ t. writes-leaning true 3 lent categories refl (l refl) f)
 track-for-writes (suc (suc (suc (suc zero)))) code lent categories f l = by-need _ (eqb code 0) _ _ _ (λ t. writes-sparse 0 4 lent categories refl refl f)
 track-for-writes (suc (suc (suc (suc (suc zero))))) code lent categories f l = tt
-track-for-writes (suc (suc (suc (suc (suc (suc zero)))))) code lent categories f l = by-need _ (eqb code 0) _ _ _ (λ t. writes-sparse 2 6 lent categories refl refl f)
-track-for-writes (suc (suc (suc (suc (suc (suc (suc zero))))))) code lent categories f l = by-need _ (eqb code 0) _ _ _ (λ t. writes-sparse 3 7 lent categories refl refl f)
+track-for-writes (suc (suc (suc (suc (suc (suc zero)))))) code lent categories f l =
+    by-need _ (eqb code 0) _ _ _ (λ t. writes-sparse 2 6 lent categories refl refl f)
+track-for-writes (suc (suc (suc (suc (suc (suc (suc zero))))))) code lent categories f l =
+    by-need _ (eqb code 0) _ _ _ (λ t. writes-sparse 3 7 lent categories refl refl f)
 track-for-writes (suc (suc (suc (suc (suc (suc (suc (suc n)))))))) code lent categories f l = tt

@@ -4,25 +4,33 @@ use Prim.Native.Nat.{ℕ, _-_, _<_}
 use mathlib.Core.Bool.{Bool, true, false}
 use mathlib.Core.List.{List, [], _∷_}
 use lib.ListN.{length}
+use Rattle.format.specs.declared.Refusal.{Refusal}
 
 -- pick test x y: x where the test holds, else y
 abbrev pub pick {ℓ} : {X : Type ℓ} → Bool → X → X → X
 pick true x y = x
 pick false x y = y
 
--- Demand 1: a refusal has a number and a place. A reading step gives what it read and the bytes left, or a refusal.
+-- A reading step gives what it read and the bytes left, or a refusal.
 pub data Out (A : Type 0) : Type 0 where
   ok : A → List ℕ → Out A
-  refuse : ℕ → ℕ → Out A
+  refused : Refusal → Out A
+
+-- Demand 1: "A refusal has a number and a place."
+abbrev pub refusal : ℕ → ℕ → Refusal
+refusal number place = record { number = number; place = place }
+
+abbrev pub refuse : {A : Type 0} → ℕ → ℕ → Out A
+refuse number place = refused (refusal number place)
 
 -- one step after another; a function of what was read
 abbrev pub bind : {A B : Type 0} → Out A → (A → List ℕ → Out B) → Out B
 bind (ok a left) next = next a left
-bind (refuse number place) next = refuse number place
+bind (refused why) next = refused why
 
 abbrev pub map-out : {A B : Type 0} → (A → B) → Out A → Out B
 map-out f (ok a left) = ok (f a) left
-map-out f (refuse number place) = refuse number place
+map-out f (refused why) = refused why
 
 -- need test number place next: where the test fails, that refusal; else what comes next
 abbrev pub need : {A : Type 0} → Bool → ℕ → ℕ → Out A → Out A
@@ -31,7 +39,7 @@ need test number place next = pick test next (refuse number place)
 -- every refusal under another number
 abbrev pub numbered : {A : Type 0} → ℕ → Out A → Out A
 numbered number (ok a left) = ok a left
-numbered number (refuse other place) = refuse number place
+numbered number (refused why) = refuse number (why .place)
 
 -- 01, Replies: "a place is a byte offset in the file". Where the bytes that are left begin, of a part that ends at `end`.
 abbrev pub place-of : ℕ → List ℕ → ℕ

@@ -95,7 +95,7 @@ read-entry rule parts least q sample value left next =
     (need (rule .may sample value) 17 (parts .sizes-end + (parts .count - suc (length left)) / 4)
     (map-out (_∷_ (record { sample = sample; value = value })) next)))
 
--- 01, Replies: "and after each group but the last its size byte (16)".
+-- 01, Replies: "and after each group but the last its size byte (16)". A step's bytes are those that were read: from bs to what is left.
 -- The clauses with `refuse 0 0` are where heads, sizes and values do not belong together: law `list-refusals` shows that none is reached.
 unfoldable pub read-entries : Rule → Parts → ℕ → ℕ → ℕ → List ℕ → List ℕ → List ℕ → List ℕ → Out (List Entry)
 read-entries rule parts room size before [] [] [] bs = ok [] bs
@@ -109,7 +109,7 @@ read-entries rule parts zero size before (h ∷ hs) (z ∷ zs) (v ∷ vs) bs =
 read-entries rule parts (suc room) size before hs zs (v ∷ vs) bs =
     bind (read-varint (parts .end) bs) (λ step left.
     read-entry rule parts (suc before) (place-of (parts .end) bs) (before + step) v vs
-    (read-entries rule parts room (size + length (varint-bytes step)) (before + step) hs zs vs left))
+    (read-entries rule parts room (size + (length bs - length left)) (before + step) hs zs vs left))
 
 unfoldable pub read-first : Rule → Parts → List ℕ → List ℕ → List ℕ → List ℕ → Out (List Entry)
 read-first rule parts [] [] [] bs = ok [] bs

@@ -4,6 +4,8 @@ use mathlib.Core.Path.{_≡_, refl}
 use Prim.Native.Nat.{ℕ, _-_}
 use mathlib.Core.List.{List, [], _∷_, _++_, map}
 use lib.ListN.{take, replicate}
+use Rattle.format.specs.declared.Refusal.{Refusal}
+use Rattle.format.specs.Limits.{variants-to-a-block}
 use Rattle.format.specs.Varint.{varint-within, varint-bytes, read-varint-within, read-varint}
 use Rattle.format.specs.Numbers.{number-bytes, read-number, numbers-bytes, read-numbers, read-bytes}
 use Rattle.format.specs.Packed.{byte-of, packed-after, read-packed-after}
@@ -12,8 +14,10 @@ use Rattle.format.specs.PairCode.{code-numbered}
 use Rattle.format.specs.Track.{track-bytes, read-pair-code, read-listed, read-kind}
 use Rattle.format.specs.Body.{read-body}
 use Rattle.format.specs.Variant.{file-variant, nearest, anchor}
-use Rattle.format.specs.Layout.{fixed-bytes, sum, block-count, cut, block-bytes, blocks-bytes, blocked-bytes, arrays-bytes, block-size, blocked-size, arrays-size, block-starts, joined, in-parts, layout-bytes, record-start}
-use Rattle.format.specs.Header.{read-fixed, need-fixed, with-block, read-blocks, read-blocked, plain-arrays, read-arrays, block-place, type-place, need-types, need-offsets, split-bodies, read-bodies, read-layout}
+use Rattle.format.specs.Layout.{fixed-bytes, sum, block-count, cut, block-bytes, blocks-bytes, blocked-bytes, arrays-bytes, block-size, blocked-size}
+use Rattle.format.specs.Layout.{arrays-size, header-bytes, block-starts, joined, in-parts, layout-bytes, record-start}
+use Rattle.format.specs.Header.{read-fixed, need-fixed, read-block, read-blocks, read-blocked, unblocked-arrays, read-arrays, block-place, type-place}
+use Rattle.format.specs.Header.{need-types, read-after-fixed, read-header, need-offsets, split-bodies, read-bodies, read-data, read-layout}
 use Rattle.format.specs.File.{file-bytes, read-records, read-all, read-file, read-over, read-variant, flip-bytes}
 use Rattle.format.specs.Writer.{differences, kind-track, need-categories, write-record}
 use Rattle.format.specs.Reply.{refusal-of, header-call, read-call, write-call, flip-call}
@@ -44,13 +48,16 @@ record-f = 0x01 ∷ 0x06 ∷ 0x01 ∷ 0x04 ∷ 0x03 ∷ []
 
 -- what the calls give: the row of a read, the file after a flip, the record written into as many bytes as are lent
 abbrev row-of : List ℕ → ℕ → List ℕ
-row-of file v = read-call 65536 file (file-variant v) (replicate 5 7) (replicate 5 7) .output
+row-of file v = read-call variants-to-a-block file (file-variant v) (replicate 5 7) (replicate 5 7) .output
 
 abbrev flip-of : List ℕ → ℕ → List ℕ
-flip-of file set = flip-call 65536 file (set ∷ []) (replicate 5 7) .file
+flip-of file set = flip-call variants-to-a-block file (set ∷ []) (replicate 5 7) .file
 
 abbrev record-of : List ℕ → ℕ → ℕ → ℕ → List ℕ
 record-of categories kind code lent = write-call categories kind code [] (replicate lent 7) .output
+
+abbrev number-and-place : Refusal → List ℕ
+number-and-place why = why .number ∷ why .place ∷ []
 
 -- a row of N samples, sample 3 heterozygous and all others in category 0
 abbrev row-with-one : ℕ → List ℕ
@@ -92,11 +99,17 @@ examples =
     ∷ (record-of (row-with-one 257) 4 0 4 gives (0x01 ∷ 0x03 ∷ 0x00 ∷ 0x01 ∷ []))
     -- (i) varint 300 is ac 02; 80 00 is refusal 15
     ∷ (varint-bytes 300 gives (0xac ∷ 0x02 ∷ []))
-    ∷ ((refusal-of (read-varint 2 (0x80 ∷ 0x00 ∷ [])) ∷ []) gives (15 ∷ []))
+    ∷ ((refusal-of (read-varint 2 (0x80 ∷ 0x00 ∷ [])) .number ∷ []) gives (15 ∷ []))
     -- (j) A cut by one byte is refusal 9 at 33
-    ∷ ((header-call 65536 (take 33 A) .refusal ∷ header-call 65536 (take 33 A) .place ∷ []) gives (9 ∷ 33 ∷ []))
+    ∷ (number-and-place (header-call variants-to-a-block (take 33 A) .verdict .refusal) gives (9 ∷ 33 ∷ []))
     ∷ []
 
 pub examples-hold : map (λ (e : Example). e .what) examples ≡ map (λ (e : Example). e .is) examples
-unfolding read-call header-call write-call flip-call write-record need-categories kind-track differences flip-bytes read-variant read-over read-file read-all read-records file-bytes read-layout read-bodies split-bodies need-offsets need-types type-place block-place read-arrays plain-arrays read-blocked read-blocks with-block need-fixed read-fixed record-start layout-bytes in-parts joined block-starts arrays-size blocked-size block-size arrays-bytes blocked-bytes blocks-bytes block-bytes cut block-count sum fixed-bytes anchor nearest read-body read-kind read-listed read-pair-code track-bytes code-numbered read-list read-parts read-first read-entries read-entry list-parts steps values size-bytes sizes-after heads read-packed-after packed-after byte-of read-bytes read-numbers numbers-bytes read-number number-bytes read-varint-within varint-within
+unfolding read-call header-call write-call flip-call write-record need-categories kind-track differences flip-bytes read-variant read-over read-file
+    read-all read-records file-bytes read-layout read-data read-bodies split-bodies need-offsets read-header read-after-fixed need-types type-place block-place
+    read-arrays unblocked-arrays
+    read-blocked read-blocks read-block need-fixed read-fixed record-start layout-bytes in-parts header-bytes joined block-starts arrays-size blocked-size
+    block-size arrays-bytes blocked-bytes blocks-bytes block-bytes cut block-count sum fixed-bytes anchor nearest read-body read-kind read-listed
+    read-pair-code track-bytes code-numbered read-list read-parts read-first read-entries read-entry list-parts steps values size-bytes sizes-after
+    heads read-packed-after packed-after byte-of read-bytes read-numbers numbers-bytes read-number number-bytes read-varint-within varint-within
 examples-hold = refl

@@ -5,11 +5,12 @@ use mathlib.Core.Bool.{Bool, false}
 use mathlib.Core.List.{List, [], _∷_, map}
 use lib.ListN.{length, getD}
 use Rattle.format.specs.declared.FileVariant.{FileVariant}
-use Rattle.format.specs.Base.{pick, Out, ok, refuse, bind, map-out}
-use Rattle.format.specs.Track.{leans}
-use Rattle.format.specs.Body.{Body, body-type, body-bytes, BodyFits, read-body, body-categories, flip-body}
+use Rattle.format.specs.Base.{pick, Bytes, Out, ok, bind, map-out}
+use Rattle.format.specs.Category.{exchange-all}
+use Rattle.format.specs.Container.{Container, flip-stored}
+use Rattle.format.specs.Body.{type-leans, Body, body-type, body-leans, body-bytes, BodyFits, read-body, body-categories, flip-body}
 use Rattle.format.specs.Variant.{file-variant, next-variant, anchor}
-use Rattle.format.specs.Layout.{Layout, fixed-of, header-end, layout-bytes, record-start, LayoutObeys}
+use Rattle.format.specs.Layout.{Layout, fixed-of, first-record, layout-bytes, record-start, LayoutObeys}
 use Rattle.format.specs.Header.{read-layout}
 
 -- ---- what a file is
@@ -34,21 +35,21 @@ layout-of-file f = record {
 unfoldable pub file-bytes : ℕ → File → List ℕ
 file-bytes K f = layout-bytes K (layout-of-file f)
 
--- What the next record leans on, once one of the type has been passed: what that one leant on, or its own.
+-- What the next record leans on, once one has been passed: what that one leant on if it leans, else its own.
 -- A block's first record never leans, so this is "the nearest earlier variant in the same block" (law `anchor-carried`).
-abbrev pub next-anchor {ℓ} : {X : Type ℓ} → ℕ → X → X → X
-next-anchor type lent own = pick (leans type) lent own
+abbrev pub next-anchor {ℓ} : {X : Type ℓ} → Bool → X → X → X
+next-anchor leaning lent own = pick leaning lent own
 
 -- what each variant reads as, one after another; anchor: the categories that the first leans on, if it leans
 abbrev pub rows : ℕ → List ℕ → List Body → List (List ℕ)
 rows N anchor [] = []
 rows N anchor (body ∷ bodies) =
-    body-categories N anchor body ∷ rows N (next-anchor (body-type body) anchor (body-categories N anchor body)) bodies
+    body-categories N anchor body ∷ rows N (next-anchor (body-leans body) anchor (body-categories N anchor body)) bodies
 
 abbrev pub BodiesFit : ℕ → List ℕ → List Body → Type 0
 BodiesFit N anchor [] = Unit {0}
 BodiesFit N anchor (body ∷ bodies) =
-    BodyFits N anchor body × BodiesFit N (next-anchor (body-type body) anchor (body-categories N anchor body)) bodies
+    BodyFits N anchor body × BodiesFit N (next-anchor (body-leans body) anchor (body-categories N anchor body)) bodies
 
 pub record Obeys (K : ℕ) (f : File) : Type 0 where
   pub layout : LayoutObeys K (layout-of-file f)
@@ -62,13 +63,13 @@ read-records N start anchor [] bodies = ok [] []
 read-records N start anchor (type ∷ types) [] = ok [] []
 read-records N start anchor (type ∷ types) (bs ∷ bodies) =
     bind (read-body (start + length bs) N anchor type bs) (λ body left.
-    map-out (_∷_ body) (read-records N (start + length bs) (next-anchor type anchor (body-categories N anchor body)) types bodies))
+    map-out (_∷_ body) (read-records N (start + length bs) (next-anchor (type-leans type) anchor (body-categories N anchor body)) types bodies))
 
 abbrev pub file-of : Layout → List Body → File
 file-of l bodies = record { mode = l .mode; samples = l .samples; form = l .form; flags = l .flags; bodies = bodies }
 
 unfoldable pub read-all : ℕ → Layout → Out (List Body)
-read-all K l = read-records (l .samples) (header-end K (fixed-of l)) [] (l .types) (l .bodies)
+read-all K l = read-records (l .samples) (first-record K (fixed-of l)) [] (l .types) (l .bodies)
 
 unfoldable pub read-file : ℕ → List ℕ → Out File
 read-file K bs = bind (read-layout K bs) (λ l left. map-out (file-of l) (read-all K l))
@@ -78,6 +79,9 @@ read-file K bs = bind (read-layout K bs) (λ l left. map-out (file-of l) (read-a
 abbrev pub type-of : Layout → FileVariant → ℕ
 type-of l v = getD (l .types) (v .0) 0
 
+abbrev pub variant-leans : Layout → FileVariant → Bool
+variant-leans l v = type-leans (type-of l v)
+
 unfoldable pub read-over : ℕ → Layout → List ℕ → FileVariant → Out (List ℕ)
 read-over K l anchor v =
     map-out (body-categories (l .samples) anchor) (read-body (record-start K l (next-variant v)) (l .samples) anchor (type-of l v) (getD (l .bodies) (v .0) []))
@@ -85,7 +89,7 @@ read-over K l anchor v =
 -- 01, Replies: "a read or lookup checks only its variant's, and an anchor is checked before the record that leans on it"
 unfoldable pub read-variant : ℕ → Layout → FileVariant → Out (List ℕ)
 read-variant K l v =
-    pick (leans (type-of l v))
+    pick (variant-leans l v)
     (bind (read-over K l [] (anchor K (l .types) v)) (λ row left. read-over K l row v))
     (read-over K l [] v)
 
@@ -99,16 +103,29 @@ read-row K bs v = bind (read-layout K bs) (λ l left. read-variant K l v)
 abbrev pub flip-bodies : (FileVariant → Bool) → FileVariant → Bool → List Body → List Body
 flip-bodies member v lent [] = []
 flip-bodies member v lent (body ∷ bodies) =
-    flip-body lent (member v) body ∷ flip-bodies member (next-variant v) (next-anchor (body-type body) lent (member v)) bodies
+    flip-body lent (member v) body ∷ flip-bodies member (next-variant v) (next-anchor (body-leans body) lent (member v)) bodies
 
 -- 01, Flipping: "The flag bits and every length and offset stay. Only types and record bodies may differ."
 abbrev pub flip-file : (FileVariant → Bool) → File → File
 flip-file member f = file-of (layout-of-file f) (flip-bodies member (file-variant 0) false (f .bodies))
 
--- in the stored bytes: of a file that the check accepts, the bytes of the flipped file
-abbrev pub flipped : ℕ → (FileVariant → Bool) → List ℕ → Out File → List ℕ
-flipped K member bs (ok f left) = file-bytes K (flip-file member f)
-flipped K member bs (refuse number place) = bs
+-- a file in one piece is a container; what a variant reads as is its categories
+abbrev pub pgen-file : ℕ → Container
+pgen-file K = record {
+  Stored = List ℕ;
+  AreBytes = Bytes;
+  Value = File;
+  Obeys = Obeys K;
+  bytes = file-bytes K;
+  read = read-file K;
+  variants = λ (f : File). length (f .bodies);
+  Row = List ℕ;
+  row = λ (f : File) (v : FileVariant). getD (rows (f .samples) [] (f .bodies)) (v .0) [];
+  read-row = read-row K;
+  exchange = exchange-all;
+  flip = flip-file;
+}
 
+-- in the stored bytes: of a file that the check accepts, the bytes of the flipped file
 unfoldable pub flip-bytes : ℕ → (FileVariant → Bool) → List ℕ → List ℕ
-flip-bytes K member bs = flipped K member bs (read-file K bs)
+flip-bytes K member bs = flip-stored (pgen-file K) member bs

@@ -1,4 +1,6 @@
 pub mod Base
+pub mod Limits
+pub mod Classes
 pub mod Category
 pub mod Varint
 pub mod Numbers
@@ -8,6 +10,7 @@ pub mod PairCode
 pub mod Track
 pub mod Body
 pub mod Variant
+pub mod Container
 pub mod Layout
 pub mod Header
 pub mod File

@@ -12,7 +12,7 @@ use Rattle.format.specs.Packed.{one, two, packed, read-packed}
 use Rattle.format.specs.Difflist.{Entry, Rule, Rising, number-width, list-bytes, read-list}
 use Rattle.format.specs.PairCode.{PairCode, pair, image, category-of, in-pair, Coded, coded, not-coded, code-numbered}
 
--- ---- kinds
+-- ---- kinds, by their numbers: 0 to 7, the low three bits of a record's type
 
 -- 01, Categories and kinds: 0, "the packed array"; 1, a pair; 2 and 3, "against the anchor", 3 inverted; 4, 6, 7, "outside category 0, 2, 3"
 pub data Kind : Type 0 where
@@ -54,6 +54,13 @@ track-kind (plain categories) = 0
 track-kind (one-bit c bits es) = 1
 track-kind (leaning inverted es) = pick inverted 3 2
 track-kind (sparse category es) = suc (suc (suc (suc category)))
+
+-- whether it leans on an anchor, as its kind does (law `leans-track`)
+abbrev pub track-leans : Track → Bool
+track-leans (plain categories) = false
+track-leans (one-bit c bits es) = false
+track-leans (leaning inverted es) = true
+track-leans (sparse category es) = false
 
 -- 01: "No list holds a value it need not: none equal to the base category in 4, 6, 7, none in the pair in 1, none equal to the anchor's category of that
 -- sample in 2 and 3." (An anchor has N categories. Past its end 1 stands, which an exchange keeps.)

@@ -1,4 +1,4 @@
--- The two variant numbers, and the anchor. K is the number of variants to a block: 65,536, and a parameter so that small blocks can be tried.
+-- The two variant numbers, and the anchor. K is the number of variants to a block.
 -- Assumes nothing.
 use Prim.Native.Nat.{ℕ, zero, suc, _+_, _*_, _/_, _%_}
 use mathlib.Core.List.{List}
@@ -6,7 +6,7 @@ use lib.ListN.{getD, drop}
 use Rattle.format.specs.declared.FileVariant.{FileVariant}
 use Rattle.format.specs.declared.BlockVariant.{BlockVariant}
 use Rattle.format.specs.Base.{pick}
-use Rattle.format.specs.Track.{leans}
+use Rattle.format.specs.Body.{type-leans}
 
 -- 01, The header: "A variant's number in the file and its number within its block are two counts, and the second restarts at 0 on variant 65,536; no
 -- interface lets one stand for the other." These functions alone turn one into the other.
@@ -32,7 +32,7 @@ in-file K block i = file-variant (block * K + i .0)
 -- among the first i of a block's types, from the last of them back
 unfoldable pub nearest : List ℕ → ℕ → BlockVariant
 nearest types zero = block-variant 0
-nearest types (suc i) = pick (leans (getD types i 0)) (nearest types i) (block-variant i)
+nearest types (suc i) = pick (type-leans (getD types i 0)) (nearest types i) (block-variant i)
 
 unfoldable pub anchor : ℕ → List ℕ → FileVariant → FileVariant
 anchor K types v = in-file K (block-of K v) (nearest (drop (block-of K v * K) types) (in-block K v .0))

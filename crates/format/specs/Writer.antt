@@ -6,11 +6,13 @@ use mathlib.Core.List.{List, [], _∷_, map}
 use lib.ListN.{length, replicate}
 use lib.Dec.{eqb, ltb, leb}
 use Rattle.format.specs.Base.{pick, Out, ok, refuse, bind, need}
+use Rattle.format.specs.Limits.{most-samples}
 use Rattle.format.specs.Category.{exchange-all}
 use Rattle.format.specs.Difflist.{Entry}
 use Rattle.format.specs.PairCode.{PairCode, pair, category-of, Coded, coded, not-coded, code-numbered}
-use Rattle.format.specs.Track.{Kind, array, paired, against-anchor, against-category, no-kind, kind, leans, Track, plain, one-bit, leaning, sparse, track-bytes, put}
-use Rattle.format.specs.Layout.{from-1-to, most-samples}
+use Rattle.format.specs.Track.{Kind, array, paired, against-anchor, against-category, no-kind, kind, leans, Track, plain, one-bit, leaning, sparse}
+use Rattle.format.specs.Track.{track-bytes, put}
+use Rattle.format.specs.Layout.{from-1-to}
 
 -- the samples, from sample i on, whose category is not the base's
 abbrev pub unless : Bool → Entry → List Entry → List Entry

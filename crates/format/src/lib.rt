@@ -16,40 +16,54 @@ pub enum PairFound {
     Unknown,
 }
 
+// 01, What the software covers: "samples N from 1 to 65,536; variants M from 1 to 16,777,216"
+pub const MOST_SAMPLES: usize = 65536;
+
+pub const MOST_VARIANTS: usize = 16777216;
+
+// 01, The header: "blocks of 65,536 variants, the last may be shorter"
+pub const VARIANTS_TO_A_BLOCK: usize = 65536;
+
 // 01, The header: "A variant's number in the file and its number within its block are two counts, and the second restarts at 0 on variant 65,536;
 // no interface lets one stand for the other."
 pub struct FileVariant(pub usize);
 
 pub struct BlockVariant(pub usize);
 
+// 01, The header: "Bytes 0 to 2: 0x6c 0x1b and the mode. Bytes 3 to 6: M. Bytes 7 to 10: N. Byte 11: the form." All but the first two, read once.
+pub struct Fields {
+    pub mode: u8,
+    pub variants: usize,
+    pub samples: usize,
+    pub form: u8,
+}
+
+// Demand 1: "A refusal has a number and a place."
+pub struct Refusal {
+    pub number: u8,
+    pub place: usize,
+}
+
 // 01, Replies: what a header check and a whole-file check give.
 pub enum HeaderReply {
-    Accepted {
-        mode: u8,
-        variants: usize,
-        samples: usize,
-        form: u8,
-    },
-    Refused {
-        number: u8,
-        place: usize,
-    },
+    Accepted(Fields),
+    Refused(Refusal),
 }
 
 // What a read and a flip give.
 pub enum Reply {
     Accepted,
-    Refused { number: u8, place: usize },
+    Refused(Refusal),
 }
 
 // What a lookup gives.
 pub enum LookupReply {
     Category(u8),
-    Refused { number: u8, place: usize },
+    Refused(Refusal),
 }
 
 // What the writer gives.
 pub enum WriteReply {
     Count(usize),
-    Refused { number: u8, place: usize },
+    Refused(Refusal),
 }

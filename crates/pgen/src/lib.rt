@@ -1,22 +1,22 @@
 // The public library: its nine calls, each from the crate where its code and its contract stand. None has a `requires`.
 
 // 01, Replies: "the header check and the whole-file check give mode, M, N and the form byte (0 for each on a refusal)"
-pub use header::check as header_check;
-pub use readcalls::check;
+pub use call_read::check;
+pub use head_check::check as header_check;
 
 // 01: "A read changes the output's first N bytes and no others." "a lookup gives the category (0 on a refusal)"
-pub use readcalls::lookup;
-pub use readcalls::read;
+pub use call_read::lookup;
+pub use call_read::read;
 
 // 01: "hands back the bytes of one record as a part of the caller's file"
-pub use places::view;
+pub use call_read::view;
 
 // 01: "The writer takes categories, a kind, a pair code (0 unless kind 1), an anchor's categories (empty unless kind 2 or 3) and an output."
-pub use writer::write_record;
+pub use call_write::write_record;
 
 // 01, Flipping: "The set has bit v for variant v."
-pub use flipcall::flip;
+pub use call_flip::flip;
 
 // A file read variant by variant for one header check: a state that a start gives, and each step's reply with the state moved on.
-pub use rows::next_row;
-pub use rows::start_rows;
+pub use call_rows::next_row;
+pub use call_rows::start_rows;

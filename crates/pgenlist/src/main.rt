@@ -2,32 +2,38 @@
 ghost use Prim.Native.Nat.{_≤_};
 ghost use mathlib.Core.Path.{_≡_};
 ghost use lib.ListN.{length};
-use extents::kind_of;
+ghost use Rattle.format.specs.Limits.{most-samples, most-variants};
+use call_rows::Rows;
+use call_rows::RowsReply;
 use format::FileVariant;
 use format::HeaderReply;
+use format::MOST_SAMPLES;
+use format::Refusal;
+use head_records::type_of;
 use pgen::next_row;
 use pgen::start_rows;
-use rows::Rows;
-use rows::RowsReply;
 
-// 01: "The listing program reads at most 65,536 bytes from standard input." One byte more shows that there are more.
-fn input_space() -> [u8; 65537]
+// 01: "The listing program reads at most 65,536 bytes from standard input."
+const MOST_INPUT: usize = 65536;
+
+// One byte more shows that there are more.
+fn input_space() -> [u8; MOST_INPUT + 1]
     ensures { λ r. ⌜ 65537 ≡ length r ⌝ }
 {
-    [0; 65537]
+    [0; MOST_INPUT + 1]
 }
 
-fn row_space() -> [u8; 65536]
-    ensures { λ r. ⌜ 65536 ≡ length r ⌝ }
+fn row_space() -> [u8; MOST_SAMPLES]
+    ensures { λ r. ⌜ most-samples ≡ length r ⌝ }
 {
-    [0; 65536]
+    [0; MOST_SAMPLES]
 }
 
 // 01: "per variant its number, its type in decimal and its categories as digits"
-fn put_row(out: &mut [u8], at: usize, v: usize, kind: u8, row: &[u8]) -> usize {
-    let mut filled = text::put_decimal(out, at, v);
+fn put_row(out: &mut [u8], at: usize, v: FileVariant, record_type: u8, row: &[u8]) -> usize {
+    let mut filled = text::put_decimal(out, at, v.0);
     filled = text::put(out, filled, b' ');
-    filled = text::put_decimal(out, filled, kind as usize);
+    filled = text::put_decimal(out, filled, record_type as usize);
     filled = text::put(out, filled, b' ');
     let mut i = 0;
     while i < row.len() {
@@ -46,63 +52,56 @@ fn put_rows(
     out: &mut [u8],
     at: usize,
 ) -> usize
-    requires { ⌜ (first .fields .variants ≤ 16777216) × (first .fields .samples ≤ length (now row)) ⌝ }
+    requires { ⌜ (first .fields .variants ≤ most-variants) × (first .fields .samples ≤ length (now row)) ⌝ }
 {
     let f = first.fields;
     let m = f.variants;
     let n = f.samples;
     let mut rows = first;
     let mut filled = at;
-    let mut v: usize = 0;
-    while v < m {
+    let mut i: usize = 0;
+    while i < m {
         let step = next_row(rows, file, row, work);
         rows = step.rows;
-        let kind = kind_of(file, f, FileVariant(v));
-        filled = put_row(out, filled, v, kind, &row[..n]);
-        v = v + 1;
+        let v = FileVariant(i);
+        let record_type = type_of(file, f, v);
+        filled = put_row(out, filled, v, record_type, &row[..n]);
+        i = i + 1;
     }
     filled
 }
 
 // The whole-file check has accepted the file with this work area, so that no call here is refused.
 fn put_variants(file: &[u8], work: &mut [u8], row: &mut [u8], out: &mut [u8], at: usize) -> usize
-    requires { ⌜ length (now row) ≡ 65536 ⌝ }
+    requires { ⌜ length (now row) ≡ most-samples ⌝ }
 {
     let started = start_rows(file, work);
     match started {
-        RowsReply::Refused {
-            number: _,
-            place: _,
-        } => at,
+        RowsReply::Refused(_) => at,
         RowsReply::Started(first) => put_rows(file, first, work, row, out, at),
     }
 }
 
 // 01: "A refused file gives only the line `refused`, number, place, spaced likewise".
-fn put_refused(out: &mut [u8], number: u8, place: usize) -> usize {
+fn put_refused(out: &mut [u8], why: Refusal) -> usize {
     let mut filled = text::put_all(out, 0, b"refused ");
-    filled = text::put_decimal(out, filled, number as usize);
+    filled = text::put_decimal(out, filled, why.number as usize);
     filled = text::put(out, filled, b' ');
-    filled = text::put_decimal(out, filled, place);
+    filled = text::put_decimal(out, filled, why.place);
     text::put(out, filled, b'\n')
 }
 
 // 01: "the listing program before it prints, make the whole-file check"
 fn list(file: &[u8], work: &mut [u8], row: &mut [u8], out: &mut [u8]) -> usize
-    requires { ⌜ length (now row) ≡ 65536 ⌝ }
+    requires { ⌜ length (now row) ≡ most-samples ⌝ }
 {
     let found = pgen::check(file, work);
     match found {
-        HeaderReply::Refused { number, place } => put_refused(out, number, place),
-        HeaderReply::Accepted {
-            mode: _,
-            variants,
-            samples,
-            form: _,
-        } => {
-            let mut filled = text::put_decimal(out, 0, variants);
+        HeaderReply::Refused(why) => put_refused(out, why),
+        HeaderReply::Accepted(fields) => {
+            let mut filled = text::put_decimal(out, 0, fields.variants);
             filled = text::put(out, filled, b' ');
-            filled = text::put_decimal(out, filled, samples);
+            filled = text::put_decimal(out, filled, fields.samples);
             filled = text::put(out, filled, b'\n');
             put_variants(file, work, row, out, filled)
         }
@@ -111,10 +110,10 @@ fn list(file: &[u8], work: &mut [u8], row: &mut [u8], out: &mut [u8]) -> usize
 
 // The file is what was read; a longer input is not looked at.
 fn run(input: &mut [u8], work: &mut [u8], row: &mut [u8], out: &mut [u8])
-    requires { ⌜ length (now row) ≡ 65536 ⌝ }
+    requires { ⌜ length (now row) ≡ most-samples ⌝ }
 {
     let count = io::read_full(0, input);
-    if 65536 < count {
+    if MOST_INPUT < count {
         let filled = text::put_all(out, 0, b"too large\n");
         text::flush(out, filled);
         return;

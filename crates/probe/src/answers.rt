@@ -1,11 +1,15 @@
 // Each call's line: the refusal number, the place, the call's own numbers, then each lent buffer. A line is gathered where its call is made, so that
 // no output buffer goes through every function, and leaves in one write if it is not long.
 use crate::cases::Case;
+use crate::lent::MOST_LENT;
 use crate::lent::least;
 use crate::lent::space;
+use call_rows::Rows;
+use call_rows::RowsReply;
 use format::FileVariant;
 use format::HeaderReply;
 use format::LookupReply;
+use format::Refusal;
 use format::Reply;
 use format::WriteReply;
 
@@ -19,10 +23,18 @@ fn next(out: &mut [u8], at: usize, n: usize) -> usize {
     text::put_decimal(out, filled, n)
 }
 
-// The refusal number and the place, which begin a line.
-fn pair(out: &mut [u8], number: u8, place: usize) -> usize {
-    let filled = text::put_decimal(out, 0, number as usize);
-    next(out, filled, place)
+// 01, Replies: "An accepted call has refusal 0 and place 0."
+fn none() -> Refusal {
+    Refusal {
+        number: 0,
+        place: 0,
+    }
+}
+
+// A refusal's number and its place.
+fn pair(out: &mut [u8], at: usize, why: Refusal) -> usize {
+    let filled = text::put_decimal(out, at, why.number as usize);
+    next(out, filled, why.place)
 }
 
 // A buffer's letter and its bytes.
@@ -40,40 +52,35 @@ fn end(out: &mut [u8], at: usize) {
 
 fn header(out: &mut [u8], r: HeaderReply) -> usize {
     match r {
-        HeaderReply::Accepted {
-            mode,
-            variants,
-            samples,
-            form,
-        } => {
-            let a = pair(out, 0, 0);
-            let b = next(out, a, mode as usize);
-            let c = next(out, b, variants);
-            let d = next(out, c, samples);
-            next(out, d, form as usize)
+        HeaderReply::Accepted(fields) => {
+            let a = pair(out, 0, none());
+            let b = next(out, a, fields.mode as usize);
+            let c = next(out, b, fields.variants);
+            let d = next(out, c, fields.samples);
+            next(out, d, fields.form as usize)
         }
-        HeaderReply::Refused { number, place } => {
-            let a = pair(out, number, place);
+        HeaderReply::Refused(why) => {
+            let a = pair(out, 0, why);
             text::put_all(out, a, b" 0 0 0 0")
         }
     }
 }
 
-fn done(out: &mut [u8], r: Reply) -> usize {
+fn done(out: &mut [u8], at: usize, r: Reply) -> usize {
     match r {
-        Reply::Accepted => pair(out, 0, 0),
-        Reply::Refused { number, place } => pair(out, number, place),
+        Reply::Accepted => pair(out, at, none()),
+        Reply::Refused(why) => pair(out, at, why),
     }
 }
 
 fn category(out: &mut [u8], r: LookupReply) -> usize {
     match r {
         LookupReply::Category(c) => {
-            let a = pair(out, 0, 0);
+            let a = pair(out, 0, none());
             next(out, a, c as usize)
         }
-        LookupReply::Refused { number, place } => {
-            let a = pair(out, number, place);
+        LookupReply::Refused(why) => {
+            let a = pair(out, 0, why);
             next(out, a, 0)
         }
     }
@@ -82,11 +89,11 @@ fn category(out: &mut [u8], r: LookupReply) -> usize {
 fn count(out: &mut [u8], r: WriteReply) -> usize {
     match r {
         WriteReply::Count(n) => {
-            let a = pair(out, 0, 0);
+            let a = pair(out, 0, none());
             next(out, a, n)
         }
-        WriteReply::Refused { number, place } => {
-            let a = pair(out, number, place);
+        WriteReply::Refused(why) => {
+            let a = pair(out, 0, why);
             next(out, a, 0)
         }
     }
@@ -105,37 +112,37 @@ fn checked(file: &[u8], work: &mut [u8]) {
     end(&mut out, b);
 }
 
-fn read(file: &[u8], x: usize, output: &mut [u8], work: &mut [u8]) {
+fn read(file: &[u8], v: FileVariant, output: &mut [u8], work: &mut [u8]) {
     let mut out = [0u8; 4096];
-    let a = done(&mut out, pgen::read(file, FileVariant(x), output, work));
+    let a = done(&mut out, 0, pgen::read(file, v, output, work));
     let b = buffer(&mut out, a, b'o', output);
     let c = buffer(&mut out, b, b'w', work);
     end(&mut out, c);
 }
 
-fn looked_up(file: &[u8], x: usize, y: usize, work: &mut [u8]) {
+fn looked_up(file: &[u8], v: FileVariant, sample: usize, work: &mut [u8]) {
     let mut out = [0u8; 4096];
-    let a = category(&mut out, pgen::lookup(file, FileVariant(x), y, work));
+    let a = category(&mut out, pgen::lookup(file, v, sample, work));
     let b = buffer(&mut out, a, b'w', work);
     end(&mut out, b);
 }
 
-fn viewed(file: &[u8], x: usize) {
+fn viewed(file: &[u8], v: FileVariant) {
     let mut number: u8 = 0;
     let mut place: usize = 0;
-    let part = pgen::view(file, FileVariant(x), &mut number, &mut place);
+    let part = pgen::view(file, v, &mut number, &mut place);
     let mut out = [0u8; 4096];
-    let a = pair(&mut out, number, place);
+    let a = pair(&mut out, 0, Refusal { number, place });
     let b = next(&mut out, a, part.len());
     let c = buffer(&mut out, b, b'p', part);
     end(&mut out, c);
 }
 
-fn written(categories: &[u8], x: usize, y: usize, anchor: &[u8], output: &mut [u8]) {
+fn written(categories: &[u8], kind: usize, code: usize, anchor: &[u8], output: &mut [u8]) {
     let mut out = [0u8; 4096];
     let a = count(
         &mut out,
-        pgen::write_record(categories, x, y, anchor, output),
+        pgen::write_record(categories, kind, code, anchor, output),
     );
     let b = buffer(&mut out, a, b'o', output);
     end(&mut out, b);
@@ -143,10 +150,74 @@ fn written(categories: &[u8], x: usize, y: usize, anchor: &[u8], output: &mut [u
 
 fn flipped(file: &mut [u8], set: &[u8], work: &mut [u8]) {
     let mut out = [0u8; 4096];
-    let a = done(&mut out, pgen::flip(file, set, work));
+    let a = done(&mut out, 0, pgen::flip(file, set, work));
     let b = buffer(&mut out, a, b'f', file);
     let c = buffer(&mut out, b, b'w', work);
     end(&mut out, c);
+}
+
+// A step's letter and its reply.
+fn stepped(out: &mut [u8], at: usize, r: Reply) -> usize {
+    let filled = text::put_all(out, at, b" s ");
+    done(out, filled, r)
+}
+
+// So many steps, each with the output after it.
+fn steps(
+    out: &mut [u8],
+    at: usize,
+    first: Rows,
+    count: usize,
+    file: &[u8],
+    output: &mut [u8],
+    work: &mut [u8],
+) -> usize {
+    let mut rows = first;
+    let mut filled = at;
+    let mut left = count;
+    while 0 < left {
+        let moved = pgen::next_row(rows, file, output, work);
+        rows = moved.rows;
+        let reply = moved.reply;
+        let told = stepped(out, filled, reply);
+        filled = buffer(out, told, b'o', output);
+        left = left - 1;
+    }
+    filled
+}
+
+// The start's reply and, if it was accepted, the steps from there.
+fn started(
+    out: &mut [u8],
+    r: RowsReply,
+    count: usize,
+    file: &[u8],
+    output: &mut [u8],
+    work: &mut [u8],
+) -> usize {
+    match r {
+        RowsReply::Started(first) => {
+            let a = pair(out, 0, none());
+            steps(out, a, first, count, file, output, work)
+        }
+        RowsReply::Refused(why) => pair(out, 0, why),
+    }
+}
+
+// The start is made on the second string if there is one: its state is then a foreign one for the steps, which go over the first.
+fn start(first: &[u8], second: &[u8], work: &[u8]) -> RowsReply {
+    if second.len() == 0 {
+        return pgen::start_rows(first, work);
+    }
+    pgen::start_rows(second, work)
+}
+
+fn gone_through(first: &[u8], second: &[u8], count: usize, output: &mut [u8], work: &mut [u8]) {
+    let mut out = [0u8; 4096];
+    let r = start(first, second, work);
+    let a = started(&mut out, r, count, first, output, work);
+    let b = buffer(&mut out, a, b'w', work);
+    end(&mut out, b);
 }
 
 // The calls that leave the first string as it is.
@@ -155,9 +226,10 @@ fn ask(c: Case, first: &[u8], second: &[u8], output: &mut [u8], work: &mut [u8])
     match call {
         1 => header_checked(first),
         2 => checked(first, work),
-        3 => read(first, c.x, output, work),
-        4 => looked_up(first, c.x, c.y, work),
-        5 => viewed(first, c.x),
+        3 => read(first, FileVariant(c.x), output, work),
+        4 => looked_up(first, FileVariant(c.x), c.y, work),
+        5 => viewed(first, FileVariant(c.x)),
+        23 => gone_through(first, second, c.x, output, work),
         _ => written(first, c.x, c.y, second, output),
     }
 }
@@ -166,8 +238,8 @@ fn ask(c: Case, first: &[u8], second: &[u8], output: &mut [u8], work: &mut [u8])
 pub fn run(c: Case, first: &mut [u8], second: &[u8]) {
     let mut output = space(OUTPUT_FILL);
     let mut work = space(WORK_FILL);
-    let o = least(c.output, 131072);
-    let w = least(c.work, 131072);
+    let o = least(c.output, MOST_LENT);
+    let w = least(c.work, MOST_LENT);
     if c.call == 7 {
         flipped(first, second, &mut work[..w]);
     } else {

@@ -1,4 +1,6 @@
 // The head of a case.
+use crate::lent::MOST_FIRST;
+use crate::lent::MOST_LENT;
 ghost use Prim.Native.Nat.{_<_, _≤_};
 
 pub struct Case {
@@ -55,26 +57,33 @@ pub fn case_of(head: &[u8; 33]) -> Case {
     }
 }
 
-// The head came whole, names a call and keeps the limits: the first string up to 524,288 bytes; the second, the output and the work area up to
-// 131,072 each.
+// 1 to 7, and 23, a way through a file of at most 64 steps.
+fn known(call: usize, x: usize) -> bool {
+    if call == 0 {
+        return false;
+    }
+    if call == 23 {
+        return x <= 64;
+    }
+    call <= 7
+}
+
+// The head came whole, names a call and keeps the limits.
 pub fn allowed(c: Case, got: usize) -> bool {
     if got < 33 {
         return false;
     }
-    if c.call == 0 {
+    if !known(c.call, c.x) {
         return false;
     }
-    if 7 < c.call {
+    if MOST_FIRST < c.first {
         return false;
     }
-    if 524288 < c.first {
+    if MOST_LENT < c.second {
         return false;
     }
-    if 131072 < c.second {
+    if MOST_LENT < c.output {
         return false;
     }
-    if 131072 < c.output {
-        return false;
-    }
-    c.work <= 131072
+    c.work <= MOST_LENT
 }

@@ -8,6 +8,8 @@ use answers::run;
 use cases::Case;
 use cases::allowed;
 use cases::case_of;
+use lent::MOST_FIRST;
+use lent::MOST_LENT;
 use lent::least;
 use lent::space;
 
@@ -22,7 +24,7 @@ fn answer(c: Case, first: &mut [u8], second: &mut [u8]) {
 fn serve(c: Case, first: &mut [u8]) {
     let mut second = space(0);
     let a = least(c.first, first.len());
-    let b = least(c.second, 131072);
+    let b = least(c.second, MOST_LENT);
     answer(c, &mut first[..a], &mut second[..b]);
 }
 
@@ -48,7 +50,7 @@ fn step(first: &mut [u8]) -> bool {
 
 // All cases. The count of them only makes the loop end; no input has so many.
 fn main() {
-    let mut first = [0u8; 524288];
+    let mut first = [0u8; MOST_FIRST];
     let mut left: u64 = 18446744073709551615;
     while 0 < left {
         left = left - 1;

@@ -1,24 +1,25 @@
 -- The calls: a refused one leaves each output and the file as they were; the whole-file check accepts exactly the files that obey.
 -- Assumes nothing.
-use mathlib.Core.Path.{_≡_, refl, sym, ap, _∙_, subst}
+use mathlib.Core.Path.{_≡_, refl, ap, _∙_, subst}
 use Prim.Native.Nat.{ℕ, zero, _≤_, _<_}
-use mathlib.Core.Bool.{Bool, true, false}
+use mathlib.Core.Bool.{Bool, true, false, not}
 use mathlib.Core.Logic.{_↔_}
 use mathlib.Core.List.{List, []}
 use lib.ListN.{length}
-use lib.Dec.{leb}
+use lib.Dec.{eqb, leb}
 use native.Mathlib.Omega.{arith}
 use borrow.Author.Tests.{leb-true, le-leb}
 use Rattle.format.specs.declared.FileVariant.{FileVariant}
-use Rattle.format.specs.Base.{Bytes, Out, ok, refuse, bind, map-out, need}
+use Rattle.format.specs.Base.{Bytes, Out, ok, refused, bind, map-out, need}
 use Rattle.format.specs.Body.{Body}
-use Rattle.format.specs.Layout.{most-samples, header-end, Layout, fixed-of}
+use Rattle.format.specs.Limits.{most-samples}
+use Rattle.format.specs.Layout.{Layout, fixed-of, first-record}
 use Rattle.format.specs.Header.{read-layout}
 use Rattle.format.specs.File.{File, layout-of-file, file-bytes, Obeys, file-of, read-all, read-file}
 use Rattle.format.specs.Writer.{write-record}
-use Rattle.format.specs.Reply.{refusal-of, given, summary, check-out, check-call, read-out, read-call, write-call, flip-out, flip-call}
-use Rattle.format.proofs.Refuses.{Refuses}
-use Rattle.format.proofs.CallRefusals.{CheckNumber, check-refusals}
+use Rattle.format.specs.Reply.{refusal-of, given, check-out, check-call, read-out, read-call, write-call, flip-out, flip-call}
+use Rattle.format.proofs.Refuses.{Refuses, Among, every, not-none}
+use Rattle.format.proofs.CallRefusals.{check-numbers, check-refusals}
 use Rattle.format.proofs.Rules.{Holds}
 use Rattle.format.proofs.OffsetsLaws.{from-1-to-most}
 use Rattle.format.proofs.HeaderLaws.{layout-read-back}
@@ -26,35 +27,33 @@ use Rattle.format.proofs.FileLaws.{records-read-back, IsFile, file-as-written}
 
 -- ---- DEMAND 1: a refusal leaves every output and the file untouched
 
-untouched : {A B : Type 0} (f : A → B) (before : B) (out : Out A) → (refusal-of out ≡ 0 → ⊥) → given f before out ≡ before
+untouched : {A B : Type 0} (f : A → B) (before : B) (out : Out A) → (refusal-of out .number ≡ 0 → ⊥) → given f before out ≡ before
 untouched f before (ok a left) h = absurd (h refl)
-untouched f before (refuse number place) h = refl
+untouched f before (refused why) h = refl
 
-pub refused-read : (K : ℕ) (file : List ℕ) (v : FileVariant) (output work : List ℕ) → (read-call K file v output work .refusal ≡ 0 → ⊥)
+pub refused-read : (K : ℕ) (file : List ℕ) (v : FileVariant) (output work : List ℕ) → (read-call K file v output work .verdict .refusal .number ≡ 0 → ⊥)
     → read-call K file v output work .output ≡ output
 unfolding read-call
 refused-read K file v output work h = untouched _ output (read-out K file v output work) h
 
-pub refused-write : (categories : List ℕ) (number code : ℕ) (lent output : List ℕ) → (write-call categories number code lent output .refusal ≡ 0 → ⊥)
+pub refused-write : (categories : List ℕ) (number code : ℕ) (lent output : List ℕ)
+    → (write-call categories number code lent output .verdict .refusal .number ≡ 0 → ⊥)
     → write-call categories number code lent output .output ≡ output
 unfolding write-call
 refused-write categories number code lent output h = untouched _ output (write-record categories number code lent (length output)) h
 
-pub refused-flip : (K : ℕ) (file set work : List ℕ) → (flip-call K file set work .refusal ≡ 0 → ⊥) → flip-call K file set work .file ≡ file
+pub refused-flip : (K : ℕ) (file set work : List ℕ) → (flip-call K file set work .verdict .refusal .number ≡ 0 → ⊥)
+    → flip-call K file set work .file ≡ file
 unfolding flip-call
 refused-flip K file set work h = untouched _ file (flip-out K file set work) h
 
 -- ---- DEMAND 2, of the call: accepted exactly when it obeys
 
--- an answer that refuses has a number from 1 on
-accepted : {A : Type 0} (out : Out A) → Refuses CheckNumber out → refusal-of out ≡ 0 → (a : A) × (left : List ℕ) × (out ≡ ok a left)
-accepted (ok a left) h e = (a, left, refl)
-accepted (refuse number place) h e = absurd (omega (arith, h .0 .0))
-
--- a summary has the refusal of what it sums up
-pub summary-refusal : (out : Out Layout) → summary out .refusal ≡ refusal-of out
-summary-refusal (ok l left) = refl
-summary-refusal (refuse number place) = refl
+-- no class of refusals has the number 0: what gives it was accepted
+pub accepted : {A : Type 0} (class : List ℕ) → every (λ (n : ℕ). not (eqb n 0)) class ≡ true → (out : Out A) → Refuses (Among class) out
+    → refusal-of out .number ≡ 0 → (a : A) × (left : List ℕ) × (out ≡ ok a left)
+accepted class t (ok a left) h e = (a, left, refl)
+accepted class t (refused why) h e = absurd (not-none class t (rw e at h))
 
 -- the check of the records is the file's own
 checked-file : (K : ℕ) (file work : List ℕ) (l : Layout) (left : List ℕ) → check-out K file work ≡ ok l left
@@ -65,7 +64,7 @@ checked-file K file work l left e = header (read-layout K file) e
     records : (m : Layout) (bodies : Out (List Body)) → leb (m .samples) (length work) ≡ true → map-out (λ (b : List Body). m) bodies ≡ ok l left
         → (f : File) × (rest : List ℕ) × (map-out (file-of m) bodies ≡ ok f rest) × (f .samples ≤ length work)
     records m (ok b r) t q = (file-of m b, r, refl, leb-true (m .samples) (length work) t)
-    records m (refuse number place) t q = let z : _≡_ {A = ℕ} 0 1 = cc in absurd (omega arith)
+    records m (refused why) t q = let z : _≡_ {A = ℕ} 0 1 = cc in absurd (omega arith)
 
     sized : (m : Layout) (t : Bool) → leb (m .samples) (length work) ≡ t → need t 10 0 (map-out (λ (b : List Body). m) (read-all K m)) ≡ ok l left
         → (f : File) × (rest : List ℕ) × (map-out (file-of m) (read-all K m) ≡ ok f rest) × (f .samples ≤ length work)
@@ -75,7 +74,7 @@ checked-file K file work l left e = header (read-layout K file) e
     header : (out : Out Layout) → bind out (λ m r. need (leb (m .samples) (length work)) 10 0 (map-out (λ (b : List Body). m) (read-all K m))) ≡ ok l left
         → (f : File) × (rest : List ℕ) × (bind out (λ m r. map-out (file-of m) (read-all K m)) ≡ ok f rest) × (f .samples ≤ length work)
     header (ok m r) q = sized m (leb (m .samples) (length work)) refl q
-    header (refuse number place) q = let z : _≡_ {A = ℕ} 0 1 = cc in absurd (omega arith)
+    header (refused why) q = let z : _≡_ {A = ℕ} 0 1 = cc in absurd (omega arith)
 
 -- a file that obeys passes, with a work area for its samples
 passes : (K : ℕ) (f : File) (work : List ℕ) → zero < K → Obeys K f → f .samples ≤ length work → check-out K (file-bytes K f) work ≡ ok (layout-of-file f) []
@@ -86,18 +85,18 @@ passes K f work p h m =
     simp (
       layout-read-back K l p (h .layout),
       le-leb N (length work) m,
-      records-read-back N (header-end K (fixed-of l)) [] (f .bodies) (from-1-to-most most-samples N (h .layout .fixed .samples)) (h .bodies),
+      records-read-back N (first-record K (fixed-of l)) [] (f .bodies) (from-1-to-most most-samples N (h .layout .fixed .samples)) (h .bodies),
     )
 
 -- the call accepts a file exactly when it is the bytes of a file that obeys, and the work area holds its samples
 pub check-exactly : (K : ℕ) (file work : List ℕ) → zero < K → Bytes file
-    → (check-call K file work .reply .refusal ≡ 0) ↔ ((f : File) × Obeys K f × (file ≡ file-bytes K f) × (f .samples ≤ length work))
+    → (check-call K file work .reply .verdict .refusal .number ≡ 0) ↔ ((f : File) × Obeys K f × (file ≡ file-bytes K f) × (f .samples ≤ length work))
 unfolding check-call
 check-exactly K file work p y = (
   λ e.
-      let a = accepted (check-out K file work) (check-refusals K file work p y) (sym (summary-refusal (check-out K file work)) ∙ e) in
+      let a = accepted check-numbers refl (check-out K file work) (check-refusals K file work p y) e in
       let c = checked-file K file work (a .0) (a .1) (a .2) in
       let w : IsFile K file (c .0) (c .1) = subst (Holds (IsFile K file)) (c .2) (file-as-written K file p y) in
       (c .0, w .obeys, w .written, c .3),
-  λ h. ap (λ (out : Out Layout). summary out .refusal) (ap (λ (bs : List ℕ). check-out K bs work) (h .2) ∙ passes K (h .0) work p (h .1) (h .3)),
+  λ h. ap (λ (out : Out Layout). refusal-of out .number) (ap (λ (bs : List ℕ). check-out K bs work) (h .2) ∙ passes K (h .0) work p (h .1) (h .3)),
 )

@@ -1,101 +1,116 @@
 -- DEMAND 3, of the call itself: what its contract says of a flip that it accepted.
 -- Assumes nothing.
-use mathlib.Core.Path.{_≡_, refl, sym, ap, _∙_, subst, fun-ext}
-use mathlib.Core.Logic.{inl, inr}
+use mathlib.Core.Path.{_≡_, refl, sym, ap, _∙_, fun-ext}
 use mathlib.Core.Bool.{Bool, _&&_}
-use Prim.Native.Nat.{ℕ, _≤_, _<_}
+use Prim.Native.Nat.{ℕ, _<_}
 use mathlib.Core.List.{List, []}
 use lib.ListN.{length}
 use lib.Dec.{lit<, eqb}
-use native.Mathlib.Omega.{arith}
 use Rattle.format.specs.declared.FileVariant.{FileVariant}
-use Rattle.format.specs.Base.{Bytes, Out, ok, refuse, map-out, need}
+use Rattle.format.specs.Base.{Bytes, Out, ok, refused, map-out, need}
+use Rattle.format.specs.Limits.{variants-to-a-block}
 use Rattle.format.specs.Category.{exchange-all, just-one}
 use Rattle.format.specs.Body.{Body}
+use Rattle.format.specs.Container.{Container}
 use Rattle.format.specs.Layout.{Layout}
 use Rattle.format.specs.Header.{read-layout}
-use Rattle.format.specs.File.{File, layout-of-file, file-of, read-all, read-file, read-row, flip-file, flip-bytes}
+use Rattle.format.specs.File.{File, layout-of-file, file-of, read-all, read-file, read-row, flip-file, pgen-file, flip-bytes}
 use Rattle.format.specs.Reply.{holds-row, holds-set, checked, refusal-of, given, member, past-last, flip-out, flip-call}
 use Rattle.format.proofs.Rules.{Holds, by-need, by-bind, by-map}
-use Rattle.format.proofs.Refuses.{Refuses, refuses-weaken}
-use Rattle.format.proofs.CallRefusals.{FlipNumber, flip-refusals}
-use Rattle.format.proofs.FileLaws.{IsFile, file-as-written}
-use Rattle.format.proofs.FlipLaws.{SameLayout, flip-layout, flip-accepted, flip-reads, flip-xor, flip-twice}
-use Rattle.reader.proofs.Replies.{WasRead}
+use Rattle.format.proofs.Refuses.{Refuses, Among, not-none}
+use Rattle.format.proofs.CallRefusals.{flip-numbers, flip-refusals}
+use Rattle.format.proofs.ContainerLaws.{IsStored, IsContainer}
+use Rattle.format.proofs.FlipLaws.{SameLayout, flip-layout, pgen-laws}
+use Rattle.promises.proofs.ContainerPromises.{WasFlipped, still-accepted, members-exchanged, just-one-flipped, restored}
+use Rattle.read_file.proofs.Replies.{WasRead}
+
+abbrev K : ℕ
+K = variants-to-a-block
+
+-- the files that the call is lent, and their laws
+abbrev pub files : Container
+files = pgen-file K
+
+laws : IsContainer files
+laws = pgen-laws K (lit< tt)
+
+-- ---- an accepted flip has checked the whole file
 
 -- what was accepted is what was read
 itself : (A : Type 0) (m : Out A) → Holds (λ (a : A) (left : List ℕ). m ≡ ok a left) m
 itself A (ok a left) = refl
-itself A (refuse number place) = tt
+itself A (refused why) = tt
 
--- an accepted flip has checked the whole file
-file-checked : (file set work : List ℕ) → Holds (λ (l : Layout) (left : List ℕ). WasRead File (read-file 65536 file)) (flip-out 65536 file set work)
+-- whatever was read of the layout, the whole file was read
+abbrev Whole : List ℕ → Layout → List ℕ → Type 0
+Whole file l left = WasRead File (read-file K file)
+
+file-checked : (file set work : List ℕ) → Holds (Whole file) (flip-out K file set work)
 unfolding read-file
 file-checked file set work =
-    by-bind (λ (l : Layout) (left : List ℕ). read-layout 65536 file ≡ ok l left) (λ (l : Layout) (left : List ℕ). WasRead File (read-file 65536 file))
-    (read-layout 65536 file) _ (itself Layout (read-layout 65536 file)) (λ l left e.
-    by-need (λ (l : Layout) (left : List ℕ). WasRead File (read-file 65536 file)) (holds-set set l && holds-row work l) 10 0
-    (need (eqb (past-last (length (l .bodies)) set) 0) 21 0 (checked 65536 l)) (λ t.
-    by-need (λ (l : Layout) (left : List ℕ). WasRead File (read-file 65536 file)) (eqb (past-last (length (l .bodies)) set) 0) 21 0 (checked 65536 l) (λ u.
-    by-map (λ (bodies : List Body) (rest : List ℕ). read-all 65536 l ≡ ok bodies rest) (λ (l : Layout) (left : List ℕ). WasRead File (read-file 65536 file))
-    (read-all 65536 l) (λ (bodies : List Body). l) (itself (List Body) (read-all 65536 l))
-    (λ bodies rest d. record { value = file-of l bodies; left = rest; is = simp (e, d) }))))
+    by-bind (λ (l : Layout) (left : List ℕ). read-layout K file ≡ ok l left) (Whole file) (read-layout K file) _
+    (itself Layout (read-layout K file)) (λ l left e.
+    by-need (Whole file) (holds-set set l && holds-row work l) 10 0 (need (eqb (past-last (length (l .bodies)) set) 0) 21 0 (checked K l)) (λ t.
+    by-need (Whole file) (eqb (past-last (length (l .bodies)) set) 0) 21 0 (checked K l) (λ u.
+    by-map (λ (bodies : List Body) (rest : List ℕ). read-all K l ≡ ok bodies rest) (Whole file) (read-all K l) (λ (bodies : List Body). l)
+    (itself (List Body) (read-all K l)) (λ bodies rest d.
+    record { value = file-of l bodies; left = rest; is = simp (e, d) }))))
 
-numbers : (number : ℕ) → FlipNumber number → 1 ≤ number
-numbers number (inl w) = w .0 .0
-numbers number (inr e) = omega arith
-
--- the file that was flipped, and what the call left of it
-pub record WasFlipped (file set after : List ℕ) : Type 0 where
-  pub whole : File
-  pub accepted : read-file 65536 file ≡ ok whole []
-  pub flipped : after ≡ flip-bytes 65536 (member set) file
-
-pub was-flipped : (file set work : List ℕ) → Bytes file → flip-call 65536 file set work .refusal ≡ 0 → WasFlipped file set (flip-call 65536 file set work .file)
-unfolding flip-call
-was-flipped file set work y q =
-    go (flip-out 65536 file set work) (file-checked file set work)
-    (refuses-weaken FlipNumber (λ (number : ℕ). 1 ≤ number) (flip-out 65536 file set work) numbers (flip-refusals 65536 file set work (lit< tt) y)) q
+-- so with refusal 0 the file was accepted and flipped
+pub was-flipped : (file set work : List ℕ) → Bytes file → flip-call K file set work .verdict .refusal .number ≡ 0
+    → WasFlipped files (member set) file (flip-call K file set work .file)
+unfolding flip-call flip-bytes
+was-flipped file set work y q = go (flip-out K file set work) (file-checked file set work) (flip-refusals K file set work (lit< tt) y) q
   where
-    go : (m : Out Layout) → Holds (λ (l : Layout) (left : List ℕ). WasRead File (read-file 65536 file)) m → Refuses (λ (number : ℕ). 1 ≤ number) m → refusal-of m ≡ 0
-        → WasFlipped file set (given (λ (l : Layout). flip-bytes 65536 (member set) file) file m)
-    go (refuse number place) h f e = absurd (omega (arith, f))
+    go : (m : Out Layout) → Holds (Whole file) m → Refuses (Among flip-numbers) m → refusal-of m .number ≡ 0
+        → WasFlipped files (member set) file (given (λ (l : Layout). flip-bytes K (member set) file) file m)
+    go (refused why) h f e = absurd (not-none flip-numbers refl (rw e at f))
     go (ok l left) h f e =
-        let w : IsFile 65536 file (h .value) (h .left) = subst (Holds (IsFile 65536 file)) (h .is) (file-as-written 65536 file (lit< tt) y) in
+        let w : IsStored files file (h .value) (h .left) = laws .as-written file (h .value) (h .left) y (h .is) in
         record { whole = h .value; accepted = h .is ∙ ap (ok (h .value)) (w .ended); flipped = refl }
 
-module _ (file set work : List ℕ) (y : Bytes file) (q : flip-call 65536 file set work .refusal ≡ 0) where
-  pub done : WasFlipped file set (flip-call 65536 file set work .file)
+-- ---- one call, and a second after it
+
+-- the file as the call leaves it, and the number of the refusal that it gives
+abbrev after : List ℕ → List ℕ → List ℕ → List ℕ
+after file set work = flip-call K file set work .file
+
+abbrev refusal : List ℕ → List ℕ → List ℕ → ℕ
+refusal file set work = flip-call K file set work .verdict .refusal .number
+
+module _ (file set work : List ℕ) (y : Bytes file) (q : refusal file set work ≡ 0) where
+  pub done : WasFlipped files (member set) file (after file set work)
   done = was-flipped file set work y q
 
   -- "still accepted"
-  pub call-accepted : read-file 65536 (flip-call 65536 file set work .file) ≡ ok (flip-file (member set) (done .whole)) []
-  call-accepted = ap (read-file 65536) (done .flipped) ∙ flip-accepted 65536 (member set) file (done .whole) (lit< tt) y (done .accepted)
+  pub call-accepted : read-file K (after file set work) ≡ ok (flip-file (member set) (done .whole)) []
+  call-accepted = still-accepted files laws y done
 
   -- "same lengths and offsets"; 01, Flipping: "The flag bits and every length and offset stay"
-  pub call-layout : SameLayout 65536 (layout-of-file (done .whole)) (layout-of-file (flip-file (member set) (done .whole)))
-  call-layout = flip-layout 65536 (member set) (done .whole)
+  pub call-layout : SameLayout K (layout-of-file (done .whole)) (layout-of-file (flip-file (member set) (done .whole)))
+  call-layout = flip-layout K (member set) (done .whole)
 
   -- "members read with categories 0 and 2 exchanged, all others as before, even where their stored differences lean on a flipped one"
   pub call-reads : (v : FileVariant) → v .0 < length (done .whole .bodies)
-      → read-row 65536 (flip-call 65536 file set work .file) v ≡ map-out (exchange-all (member set v)) (read-row 65536 file v)
-  call-reads v l = ap (λ (bs : List ℕ). read-row 65536 bs v) (done .flipped) ∙ flip-reads 65536 (member set) file (done .whole) (lit< tt) y (done .accepted) v l
+      → read-row K (after file set work) v ≡ map-out (exchange-all (member set v)) (read-row K file v)
+  call-reads v l = members-exchanged files laws y done v l
 
-  module _ (second work₂ : List ℕ) (y₂ : Bytes (flip-call 65536 file set work .file)) (q₂ : flip-call 65536 (flip-call 65536 file set work .file) second work₂ .refusal ≡ 0) where
-    again : flip-call 65536 (flip-call 65536 file set work .file) second work₂ .file ≡ flip-bytes 65536 (member second) (flip-bytes 65536 (member set) file)
-    again = was-flipped (flip-call 65536 file set work .file) second work₂ y₂ q₂ .flipped ∙ ap (flip-bytes 65536 (member second)) (done .flipped)
+  module _ (second work₂ : List ℕ) (y₂ : Bytes (after file set work)) (q₂ : refusal (after file set work) second work₂ ≡ 0) where
+    done₂ : WasFlipped files (member second) (after file set work) (after (after file set work) second work₂)
+    done₂ = was-flipped (after file set work) second work₂ y₂ q₂
 
     -- "Flipping one set, then a second, gives byte for byte the flip of the variants in just one of the two"
-    pub call-xor : flip-call 65536 (flip-call 65536 file set work .file) second work₂ .file
-        ≡ flip-bytes 65536 (λ (v : FileVariant). just-one (member second v) (member set v)) file
-    call-xor = again ∙ flip-xor 65536 (member second) (member set) file (lit< tt) y
+    pub call-xor : after (after file set work) second work₂ ≡ flip-bytes K (λ (v : FileVariant). just-one (member second v) (member set v)) file
+    unfolding flip-bytes
+    call-xor = just-one-flipped files laws y done done₂
 
     -- the same of three calls
     pub call-just-one : (both work₃ : List ℕ) → ((v : FileVariant) → member both v ≡ just-one (member second v) (member set v))
-        → flip-call 65536 file both work₃ .refusal ≡ 0 → flip-call 65536 (flip-call 65536 file set work .file) second work₂ .file ≡ flip-call 65536 file both work₃ .file
+        → refusal file both work₃ ≡ 0 → after (after file set work) second work₂ ≡ after file both work₃
+    unfolding flip-bytes
     call-just-one both work₃ e q₃ =
-        call-xor ∙ ap (λ (m : FileVariant → Bool). flip-bytes 65536 m file) (sym (fun-ext e)) ∙ sym (was-flipped file both work₃ y q₃ .flipped)
+        call-xor ∙ ap (λ (m : FileVariant → Bool). flip-bytes K m file) (sym (fun-ext e)) ∙ sym (was-flipped file both work₃ y q₃ .flipped)
 
     -- "so twice restores the file"
-    pub call-twice : second ≡ set → flip-call 65536 (flip-call 65536 file set work .file) second work₂ .file ≡ file
-    call-twice e = again ∙ ap (λ (s : List ℕ). flip-bytes 65536 (member s) (flip-bytes 65536 (member set) file)) e ∙ flip-twice 65536 (member set) file (lit< tt) y
+    pub call-twice : second ≡ set → after (after file set work) second work₂ ≡ file
+    call-twice e = restored files laws y done done₂ (ap member e)

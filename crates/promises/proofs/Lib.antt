@@ -1,3 +1,4 @@
+pub mod ContainerPromises
 pub mod FlipPromises
 pub mod StepIsRead
 pub mod RowsAreReads

@@ -7,19 +7,24 @@ use mathlib.Core.Bool.{not}
 use mathlib.Core.List.{List, [], _∷_, map}
 use lib.ListN.{take, set, replicate}
 use lib.Dec.{eqb}
+use Rattle.format.specs.declared.Refusal.{Refusal}
+use Rattle.format.specs.Limits.{variants-to-a-block}
 use Rattle.format.specs.Varint.{varint-within, read-varint-within}
 use Rattle.format.specs.Numbers.{number-bytes, read-number, numbers-bytes, read-numbers, read-bytes}
 use Rattle.format.specs.Packed.{byte-of, packed-after, read-packed-after}
-use Rattle.format.specs.Difflist.{number-width, heads, sizes-after, size-bytes, values, steps, list-parts, read-entry, read-entries, read-first, read-parts, read-list}
+use Rattle.format.specs.Difflist.{number-width, heads, sizes-after, size-bytes, values, steps, list-parts}
+use Rattle.format.specs.Difflist.{read-entry, read-entries, read-first, read-parts, read-list}
 use Rattle.format.specs.PairCode.{code-numbered}
 use Rattle.format.specs.Track.{track-bytes, read-pair-code, read-listed, read-kind}
 use Rattle.format.specs.Body.{read-body}
 use Rattle.format.specs.Variant.{file-variant, nearest, anchor}
-use Rattle.format.specs.Layout.{fixed-bytes, sum, block-count, cut, block-bytes, blocks-bytes, blocked-bytes, arrays-bytes, block-size, blocked-size, arrays-size, block-starts, joined, in-parts, layout-bytes, record-start}
-use Rattle.format.specs.Header.{read-fixed, need-fixed, with-block, read-blocks, read-blocked, plain-arrays, read-arrays, block-place, type-place, need-types, need-offsets, split-bodies, read-bodies, read-layout}
+use Rattle.format.specs.Layout.{fixed-bytes, sum, block-count, cut, block-bytes, blocks-bytes, blocked-bytes, arrays-bytes, block-size, blocked-size}
+use Rattle.format.specs.Layout.{arrays-size, header-bytes, block-starts, joined, in-parts, layout-bytes, record-start}
+use Rattle.format.specs.Header.{read-fixed, need-fixed, read-block, read-blocks, read-blocked, unblocked-arrays, read-arrays, block-place, type-place}
+use Rattle.format.specs.Header.{need-types, read-after-fixed, read-header, need-offsets, split-bodies, read-bodies, read-data, read-layout}
 use Rattle.format.specs.File.{file-bytes, read-records, read-all, read-file, read-over, read-variant, flip-bytes}
 use Rattle.format.specs.Writer.{differences, kind-track, need-categories, write-record}
-use Rattle.format.specs.Reply.{refusal-of, refused-at, header-call, read-call, write-call, flip-call}
+use Rattle.format.specs.Reply.{refusal-of, header-call, read-call, write-call, flip-call}
 use Rattle.format.specs.Examples.{Example, _gives_}
 
 -- file A (01, Small file used below), and files made of it by setting bytes
@@ -28,26 +33,26 @@ A =
     0x6c ∷ 0x1b ∷ 0x10 ∷ 3 ∷ 0 ∷ 0 ∷ 0 ∷ 5 ∷ 0 ∷ 0 ∷ 0 ∷ 0x40 ∷ 0x19 ∷ 0 ∷ 0 ∷ 0 ∷ 0 ∷ 0 ∷ 0 ∷ 0 ∷ 0x20 ∷ 0x04 ∷ 2 ∷ 4 ∷ 3
     ∷ 0xe4 ∷ 0x00 ∷ 0x02 ∷ 0x01 ∷ 0x06 ∷ 0x03 ∷ 0x01 ∷ 0x02 ∷ 0x03 ∷ []
 
--- number and place: of a header check; of a read of variant v into so many bytes, with a work area of five; of a flip of a set
+-- number and place: of a header check; of a read of variant v into so many bytes, with a work area of five; of a flip of a set; of a write
+abbrev number-and-place : Refusal → List ℕ
+number-and-place why = why .number ∷ why .place ∷ []
+
 abbrev header : List ℕ → List ℕ
-header file = header-call 65536 file .refusal ∷ header-call 65536 file .place ∷ []
+header file = number-and-place (header-call variants-to-a-block file .verdict .refusal)
 
 abbrev read : List ℕ → ℕ → ℕ → List ℕ
-read file v lent =
-    read-call 65536 file (file-variant v) (replicate lent 7) (replicate 5 7) .refusal ∷ read-call 65536 file (file-variant v) (replicate lent 7) (replicate 5 7) .place ∷ []
+read file v lent = number-and-place (read-call variants-to-a-block file (file-variant v) (replicate lent 7) (replicate 5 7) .verdict .refusal)
 
 abbrev flip : List ℕ → List ℕ → List ℕ
-flip file bits = flip-call 65536 file bits (replicate 5 7) .refusal ∷ flip-call 65536 file bits (replicate 5 7) .place ∷ []
+flip file bits = number-and-place (flip-call variants-to-a-block file bits (replicate 5 7) .verdict .refusal)
 
 abbrev write : List ℕ → ℕ → ℕ → List ℕ → ℕ → List ℕ
-write categories kind code lent room =
-    write-call categories kind code lent (replicate room 7) .refusal ∷ write-call categories kind code lent (replicate room 7) .place ∷ []
+write categories kind code lent room = number-and-place (write-call categories kind code lent (replicate room 7) .verdict .refusal)
 
 -- a list of a record that ends at `end`, of N samples, none of them with value 0
 abbrev list-reply : ℕ → ℕ → List ℕ → List ℕ
 list-reply N end bs =
-    refusal-of (read-list (record { samples = N; may = λ (sample value : ℕ). not (eqb value 0) }) (number-width N) end bs)
-    ∷ refused-at (read-list (record { samples = N; may = λ (sample value : ℕ). not (eqb value 0) }) (number-width N) end bs) ∷ []
+    number-and-place (refusal-of (read-list (record { samples = N; may = λ (sample value : ℕ). not (eqb value 0) }) (number-width N) end bs))
 
 abbrev pub orders : List Example
 orders =
@@ -103,5 +108,11 @@ orders =
     ∷ []
 
 pub orders-hold : map (λ (e : Example). e .what) orders ≡ map (λ (e : Example). e .is) orders
-unfolding read-call header-call write-call flip-call write-record need-categories kind-track differences flip-bytes read-variant read-over read-file read-all read-records file-bytes read-layout read-bodies split-bodies need-offsets need-types type-place block-place read-arrays plain-arrays read-blocked read-blocks with-block need-fixed read-fixed record-start layout-bytes in-parts joined block-starts arrays-size blocked-size block-size arrays-bytes blocked-bytes blocks-bytes block-bytes cut block-count sum fixed-bytes anchor nearest read-body read-kind read-listed read-pair-code track-bytes code-numbered read-list read-parts read-first read-entries read-entry list-parts steps values size-bytes sizes-after heads read-packed-after packed-after byte-of read-bytes read-numbers numbers-bytes read-number number-bytes read-varint-within varint-within
+unfolding read-call header-call write-call flip-call write-record need-categories kind-track differences flip-bytes read-variant read-over read-file
+    read-all read-records file-bytes read-layout read-data read-bodies split-bodies need-offsets read-header read-after-fixed need-types type-place block-place
+    read-arrays unblocked-arrays
+    read-blocked read-blocks read-block need-fixed read-fixed record-start layout-bytes in-parts header-bytes joined block-starts arrays-size blocked-size
+    block-size arrays-bytes blocked-bytes blocks-bytes block-bytes cut block-count sum fixed-bytes anchor nearest read-body read-kind read-listed
+    read-pair-code track-bytes code-numbered read-list read-parts read-first read-entries read-entry list-parts steps values size-bytes sizes-after
+    heads read-packed-after packed-after byte-of read-bytes read-numbers numbers-bytes read-number number-bytes read-varint-within varint-within
 orders-hold = refl

@@ -1,9 +1,11 @@
 // The library's inner loops as C functions, for bench/ alone. A function that asks something of its caller is called only where that holds; else the
 // answer is `NOT_ASKED`.
-use cursor::Cursor;
-use difflist::ListRule;
-use difflist::ListStep;
-use packed::PackedStep;
+use base_cursor::Cursor;
+use format::MOST_SAMPLES;
+use format::VARIANTS_TO_A_BLOCK;
+use read_list::ListRule;
+use read_list::ListStep;
+use read_packed::PackedStep;
 
 // The answer of an inner function that was not called.
 const NOT_ASKED: usize = 18446744073709551615;
@@ -11,22 +13,19 @@ const NOT_ASKED: usize = 18446744073709551615;
 fn of_packed(step: PackedStep) -> usize {
     match step {
         PackedStep::Next(at) => at,
-        PackedStep::Refused {
-            number: _,
-            place: _,
-        } => NOT_ASKED,
+        PackedStep::Refused(_) => NOT_ASKED,
     }
 }
 
 #[no_mangle]
 pub extern "C" fn timed_unpack_categories(s: &[u8], n: usize, row: &mut [u8]) -> usize {
-    if n > 65536 {
+    if n > MOST_SAMPLES {
         return NOT_ASKED;
     }
     if n > row.len() {
         return NOT_ASKED;
     }
-    of_packed(packed::unpack_categories(s, 0, n, row))
+    of_packed(read_packed::unpack_categories(s, 0, n, row))
 }
 
 #[no_mangle]
@@ -37,13 +36,13 @@ pub extern "C" fn timed_unpack_pair(
     higher: u8,
     row: &mut [u8],
 ) -> usize {
-    if n > 65536 {
+    if n > MOST_SAMPLES {
         return NOT_ASKED;
     }
     if n > row.len() {
         return NOT_ASKED;
     }
-    of_packed(packed::unpack_pair(s, 0, n, lower, higher, row))
+    of_packed(read_packed::unpack_pair(s, 0, n, lower, higher, row))
 }
 
 #[no_mangle]
@@ -54,7 +53,7 @@ pub extern "C" fn timed_copy(from: &[u8], n: usize, to: &mut [u8]) {
     if n > to.len() {
         return;
     }
-    rowbytes::copy(from, n, to);
+    base_rows::copy(from, n, to);
 }
 
 #[no_mangle]
@@ -62,7 +61,7 @@ pub extern "C" fn timed_clear(row: &mut [u8], n: usize) {
     if n > row.len() {
         return;
     }
-    rowbytes::clear(row, n);
+    base_rows::clear(row, n);
 }
 
 #[no_mangle]
@@ -70,7 +69,7 @@ pub extern "C" fn timed_exchange_row(row: &mut [u8], n: usize) {
     if n > row.len() {
         return;
     }
-    rowbytes::exchange_row(row, n);
+    base_rows::exchange_row(row, n);
 }
 
 // The list at `at` of the file cut where its record ends; against the row, as in all kinds but 1.
@@ -85,18 +84,15 @@ pub extern "C" fn timed_apply_list(
     if at > s.len() {
         return NOT_ASKED;
     }
-    if n > 65536 {
+    if n > MOST_SAMPLES {
         return NOT_ASKED;
     }
     if n > row.len() {
         return NOT_ASKED;
     }
-    match difflist::apply_list(s, n, ListRule::OffRow, store, Cursor { at }, row) {
+    match read_list::apply_list(s, n, ListRule::OffRow, store, Cursor { at }, row) {
         ListStep::Listed(next) => next.at,
-        ListStep::Refused {
-            number: _,
-            place: _,
-        } => NOT_ASKED,
+        ListStep::Refused(_) => NOT_ASKED,
     }
 }
 
@@ -106,55 +102,55 @@ pub extern "C" fn timed_bad_in_block(types: &[u8], n: usize, half: bool) -> usiz
     if n == 0 {
         return NOT_ASKED;
     }
-    if n > 65536 {
+    if n > VARIANTS_TO_A_BLOCK {
         return NOT_ASKED;
     }
-    if types::types_size(n, half) > types.len() {
+    if head_types::types_size(n, half) > types.len() {
         return NOT_ASKED;
     }
-    types::bad_in_block(types, 0, n, half).0
+    head_types::bad_in_block(types, 0, n, half).0
 }
 
 // The sum of lengths of 1, 2, 3 or 4 bytes that fill the slice.
 #[no_mangle]
 pub extern "C" fn timed_sum_lengths(lengths: &[u8], width: usize) -> u64 {
     let size = lengths.len();
-    if size > 65536 {
+    if size > VARIANTS_TO_A_BLOCK {
         return 0;
     }
     match width {
-        1 => numbers::sum_lengths(lengths, 0, size, 1),
-        2 => numbers::sum_lengths(lengths, 0, size / 2, 2),
-        3 => numbers::sum_lengths(lengths, 0, size / 3, 3),
-        4 => numbers::sum_lengths(lengths, 0, size / 4, 4),
+        1 => head_numbers::sum_lengths(lengths, 0, size, 1),
+        2 => head_numbers::sum_lengths(lengths, 0, size / 2, 2),
+        3 => head_numbers::sum_lengths(lengths, 0, size / 3, 3),
+        4 => head_numbers::sum_lengths(lengths, 0, size / 4, 4),
         _ => 0,
     }
 }
 
 #[no_mangle]
 pub extern "C" fn timed_exchange_values(s: &mut [u8], n: usize) {
-    if n > 65536 {
+    if n > MOST_SAMPLES {
         return;
     }
     if (n + 3) / 4 > s.len() {
         return;
     }
-    flipbytes::exchange_values(s, 0, n);
+    flip_bytes::exchange_values(s, 0, n);
 }
 
 #[no_mangle]
 pub extern "C" fn timed_complement_bits(s: &mut [u8], n: usize) {
-    if n > 65536 {
+    if n > MOST_SAMPLES {
         return;
     }
     if (n + 7) / 8 > s.len() {
         return;
     }
-    flipbytes::complement_bits(s, 0, n);
+    flip_bytes::complement_bits(s, 0, n);
 }
 
 // The first category above 3, past the last if there is none.
 #[no_mangle]
 pub extern "C" fn timed_first_above_3(row: &[u8]) -> usize {
-    writer::first_above_3(row)
+    call_write::first_above_3(row)
 }

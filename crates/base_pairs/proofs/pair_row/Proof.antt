@@ -1,0 +1,15 @@
+-- `base_pairs::pair_row` meets its contract: by the table's rule.
+-- Assumes nothing.
+use borrow.Author.Needs.{needs}
+use Rattle.format.specs.PairCode.{pair-codes, pair}
+use Rattle.format.proofs.PairLaws.{table-rule}
+use Rattle.base_pairs.proofs.pair_row.Statement.{statement}
+use Rattle.base_pairs.proofs.pair_row.Tie as tie
+
+pub pair-row-spec : {M : Type 1} → statement M
+pair-row-spec =
+    tie.close
+    (tie.spec
+    (λ c. search needs)
+    (λ c. search needs)
+    (λ c. search (table-rule pair pair-codes, needs)))

@@ -1,4 +1,0 @@
-pub mod Sizes
-pub mod Places
-pub mod UnusedLaws
-pub mod OneBlock

@@ -1,0 +1,6 @@
+pub mod CheckLaws
+pub mod RowLaws
+pub mod OpenRowLaws
+pub mod ReadLaws
+pub mod LookupLaws
+pub mod ViewLaws

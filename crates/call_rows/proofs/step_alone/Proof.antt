@@ -1,0 +1,24 @@
+-- `call_rows::step_alone` meets its contract.
+-- Assumes nothing.
+use borrow.Author.Needs.{needs}
+use Rattle.call_rows.proofs.StepLaws.{step-laws}
+use Rattle.call_rows.proofs.step_alone.Statement.{statement}
+use Rattle.call_rows.proofs.step_alone.Tie as tie
+
+pub step-alone-spec : {M : Type 1} → statement M
+step-alone-spec =
+    tie.close
+    (tie.spec
+    (λ c. search (step-laws, needs))
+    (λ c κs. search (step-laws, needs))
+    (λ c. search (step-laws, needs))
+    (λ c κs. search (step-laws, needs))
+    (λ c. search (step-laws, needs))
+    (λ c κs. search (step-laws, needs))
+    (λ c κs. search (step-laws, needs))
+    (λ c κs. search (step-laws, needs))
+    (λ c. search (step-laws, needs))
+    (λ c. search (step-laws, needs))
+    (λ c. search (step-laws, needs))
+    (λ c. search (step-laws, needs))
+    (λ c. search (step-laws, needs)))

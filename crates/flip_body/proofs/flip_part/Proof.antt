@@ -1,0 +1,17 @@
+-- `flip_body::flip_part` meets its contract.
+-- Assumes nothing.
+use borrow.Author.Needs.{needs}
+use Rattle.flip_body.proofs.Ways.{body-laws}
+use Rattle.flip_body.proofs.flip_part.Statement.{statement}
+use Rattle.flip_body.proofs.flip_part.Tie as tie
+
+pub flip-part-spec : {M : Type 1} → statement M
+flip-part-spec =
+    tie.close
+    (tie.spec
+    (λ c κs. search needs)
+    (λ c κs. search needs)
+    (λ c κs. search needs)
+    (λ c. search needs)
+    (λ c. search (body-laws, needs))
+    (λ c. search (body-laws, needs)))

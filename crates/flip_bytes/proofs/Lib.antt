@@ -1,0 +1,3 @@
+pub mod MaskLaws
+pub mod ChangedLaws
+pub mod Turns

@@ -1,0 +1,57 @@
+-- What the two returns of `flip_accepted` say: the bytes left are the flip of an accepted file.
+-- Assumes nothing.
+use mathlib.Core.Path.{_≡_, ap, _∙_, sym}
+use Prim.Native.Nat.{ℕ, _≤_}
+use mathlib.Core.Bool.{Bool, true, false}
+use mathlib.Core.List.{List}
+use lib.Dec.{lit<}
+use native.Mathlib.Omega.{arith}
+use Rattle.format.specs.declared.FileVariant.{FileVariant}
+use Rattle.format.specs.declared.Fields.{Fields}
+use Rattle.format.specs.Base.{Bytes}
+use Rattle.format.specs.Limits.{most-samples, most-variants, variants-to-a-block}
+use Rattle.format.specs.Layout.{Fixed, unblocked, Layout, fixed-of, FixedObeys}
+use Rattle.format.specs.File.{layout-of-file, flip-bytes}
+use Rattle.format.proofs.OffsetsLaws.{from-1-to-most}
+use Rattle.format.proofs.FileLaws.{file-exactly}
+use Rattle.head_blocks.specs.Parts.{fixed}
+use Rattle.head_blocks.proofs.Answers.{fails}
+use Rattle.head_blocks.proofs.Sizes.{known-bytes}
+use Rattle.flip_file.specs.Passes.{all-bodies, all-types, passes}
+use Rattle.flip_file.specs.Accepted.{Accepted}
+use Rattle.flip_file.proofs.FileLaw.{in-place-is-flip}
+
+module _ (bs : List ℕ) (y : Bytes bs) (f : Fields) (w : Accepted variants-to-a-block bs f) where
+  abbrev l : Layout
+  l = layout-of-file (w .whole)
+
+  -- the fields are those of its layout
+  fixed-is : fixed f ≡ fixed-of l
+  fixed-is = ap fixed (w .fields-are)
+
+  fixed-obeys : FixedObeys (fixed-of l)
+  fixed-obeys = file-exactly variants-to-a-block bs (w .whole) (lit< tt) y .0 (w .accepted) .0 .layout .fixed
+
+  pub variants-few : f .variants ≤ most-variants
+  variants-few = omega (arith, from-1-to-most most-variants (fixed-of l .variants) (fixed-obeys .variants), ap (λ (z : Fixed). z .variants) fixed-is)
+
+  pub samples-few : f .samples ≤ most-samples
+  samples-few = omega (arith, from-1-to-most most-samples (l .samples) (fixed-obeys .samples), ap (λ (z : Fixed). z .samples) fixed-is)
+
+  module _ (member : FileVariant → Bool) where
+    flipped : passes variants-to-a-block (fixed f) member bs ≡ flip-bytes variants-to-a-block member bs
+    flipped =
+        ap (λ (x : Fixed). passes variants-to-a-block x member bs) fixed-is
+        ∙ in-place-is-flip variants-to-a-block member bs (w .whole) (lit< tt) y (w .accepted)
+
+    module _ (t : Bool) (e : t ≡ unblocked (f .mode)) (later : List ℕ) (d : later ≡ all-bodies variants-to-a-block (fixed f) member bs) where
+      -- where there are no blocks the bodies are all
+      pub accepted-unblocked : t ≡ true → later ≡ flip-bytes variants-to-a-block member bs
+      accepted-unblocked z = d ∙ rw (sym e ∙ z) at flipped
+
+      -- else the types too
+      pub accepted-typed : t ≡ false → (last : List ℕ) → last ≡ all-types variants-to-a-block (fixed f) member later
+          → last ≡ flip-bytes variants-to-a-block member bs
+      accepted-typed z last k = k ∙ rw d (rw (sym e ∙ z) at flipped)
+
+pub ruleset accepted-laws = (known-bytes, variants-few, samples-few, fails, accepted-unblocked, accepted-typed)

@@ -1,2 +1,0 @@
-pub mod MaskLaws
-pub mod ChangedLaws

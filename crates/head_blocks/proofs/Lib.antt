@@ -1,0 +1,5 @@
+pub mod Answers
+pub mod Sizes
+pub mod Places
+pub mod UnusedLaws
+pub mod OneBlock

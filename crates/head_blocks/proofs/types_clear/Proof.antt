@@ -1,0 +1,16 @@
+-- `head_blocks::types_clear` meets its contract.
+-- Assumes nothing.
+use borrow.Author.Needs.{needs}
+use Rattle.head_blocks.proofs.UnusedLaws.{clear-laws}
+use Rattle.head_blocks.proofs.types_clear.Statement.{statement}
+use Rattle.head_blocks.proofs.types_clear.Tie as tie
+
+pub types-clear-spec : {M : Type 1} → statement M
+types-clear-spec =
+    tie.close
+    (tie.spec
+    (λ c. search (clear-laws, needs))
+    (λ c. search (clear-laws, needs))
+    (λ c. search (clear-laws, needs))
+    (λ c. search (clear-laws, needs))
+    (λ c. search (clear-laws, needs)))

@@ -1,0 +1,5 @@
+pub mod Handed
+pub mod UnblockedLaws
+pub mod BlockedLaws
+pub mod Chain
+pub mod FixedLaws

@@ -1,0 +1,13 @@
+pub mod ByIndex
+pub mod StoredLaws
+pub mod PlaceLaws
+pub mod StartLaws
+pub mod SevenLaws
+pub mod UnusedBits
+pub mod RefusalsByIndex
+pub mod RefusalsByIndexArrays
+pub mod RefusalsByIndexRecords
+pub mod RefusalsByIndexTurns
+pub mod AnchorByIndex
+pub mod InOrderLaws
+pub mod RecordTurns

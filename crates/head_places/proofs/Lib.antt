@@ -1,0 +1,3 @@
+pub mod AcceptedLaws
+pub mod InBlock
+pub mod PartLaws

@@ -1,4 +1,0 @@
-pub mod StoreLaws
-pub mod ReadsAt
-pub mod PutLaws
-pub mod CheckLaws

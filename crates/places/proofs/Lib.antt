@@ -1,4 +1,0 @@
-pub mod AcceptedLaws
-pub mod InBlock
-pub mod FromReply
-pub mod ViewLaws

@@ -1,0 +1,5 @@
+pub mod TrackLaws
+pub mod BodyLaws
+pub mod Agrees
+pub mod NextLaws
+pub mod OnlyChecked

@@ -1,0 +1,4 @@
+pub mod Replies
+pub mod Cut
+pub mod WalkLaws
+pub mod OneLaws

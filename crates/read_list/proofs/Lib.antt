@@ -1,0 +1,13 @@
+pub mod NumberLaws
+pub mod SampleLaws
+pub mod EntryLaws
+pub mod RoomLaws
+pub mod LoopLaws
+pub mod WholeLaws
+pub mod EntriesAgree
+pub mod FitLaws
+pub mod ListAgrees
+pub mod Agrees
+pub mod CheckAgrees
+pub mod CheckLaws
+pub mod CheckListLaws

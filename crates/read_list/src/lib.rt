@@ -1,0 +1,175 @@
+// A difference list, checked and put into a row that holds what it is against (01, Difference lists): one function over the number width and
+// the rule of what a list may hold. Every slice `s` is the file cut where the record ends, so that its length is the record's end.
+use base_cursor::Cursor;
+use base_cursor::VarintStep;
+use base_list::number_width;
+use format::Refusal;
+use read_packed::Width;
+ghost use mathlib.Core.Path.{_≡_};
+ghost use Prim.Native.Nat.{_≤_, _<_};
+ghost use lib.ListN.{length};
+ghost use Rattle.format.specs.Limits.{most-samples};
+ghost use Rattle.base_cursor.specs.Steps.{varint-at};
+ghost use Rattle.read_list.specs.Entries.{list-left};
+ghost use Rattle.read_list.specs.Parts.{count-of, lay-out, list-run};
+ghost use Rattle.read_list.specs.Listed.{listed};
+
+pub mod check;
+pub mod entry;
+
+use crate::entry::all_entries;
+
+// 01, Categories and kinds: "No list holds a value it need not": none in the pair, or none that the row has for that sample.
+pub enum ListRule {
+    OffPair(u8, u8),
+    OffRow,
+}
+
+// The cursor after a list, or a refusal.
+pub enum ListStep {
+    Listed(Cursor),
+    Refused(Refusal),
+}
+
+// Where the walk through the entries is: `room` entries are still to come in this group, whose steps start at `from`; `last` is the sample
+// before; the next head, size byte and step stand at `head`, `size` and `at`; `passed` entries have been passed.
+pub struct State {
+    pub room: usize,
+    pub from: usize,
+    pub last: usize,
+    pub head: usize,
+    pub size: usize,
+    pub passed: usize,
+    pub at: usize,
+}
+
+// Such a place, with how many entries are still to come in the list.
+pub struct Walk {
+    pub st: State,
+    pub more: usize,
+}
+
+// The place after an entry's sample or value, or a refusal.
+pub enum EntryStep {
+    On(State),
+    Refused(Refusal),
+}
+
+// A list's count with the cursor after it, or a refusal.
+pub enum CountStep {
+    Of(usize, Cursor),
+    Refused(Refusal),
+}
+
+// Where a list's values start, with the place before its first entry, or a refusal.
+pub enum PartsStep {
+    Fits { values: usize, first: State },
+    Refused(Refusal),
+}
+
+// 01: "A count L, at most N, as a varint." Its refusals: 12, 15, 16.
+fn read_count(s: &[u8], n: usize, c: Cursor) -> CountStep
+    requires { ⌜ c .at ≤ length (now s) ⌝ }
+    ensures { λ r. ⌜ r ≡ count-of (varint-at (now (s .entry)) (c .at)) n (c .at) ⌝ }
+{
+    let at = c.at;
+    let got = c.varint(s);
+    match got {
+        VarintStep::Refused(why) => CountStep::Refused(why),
+        VarintStep::Value(m, next) => {
+            if m > n {
+                return CountStep::Refused(Refusal {
+                    number: 16,
+                    place: at,
+                });
+            }
+            CountStep::Of(m, next)
+        }
+    }
+}
+
+// 01, Replies: "the heads, size bytes and values must fit; unused value bits (18)". The parts of a list of m entries, whose heads start at `at`.
+fn lay_parts(s: &[u8], n: usize, m: usize, at: usize) -> PartsStep
+    requires { ⌜ (at ≤ length (now s)) × (0 < m) × (m ≤ most-samples) ⌝ }
+    ensures { λ r. ⌜ r ≡ lay-out (now (s .entry)) n m at ⌝ }
+{
+    let groups = base_list::groups(m);
+    let size = at + number_width(n) * groups;
+    let values = size + (groups - 1);
+    let steps = values + (m + 3) / 4;
+    if steps > s.len() {
+        return PartsStep::Refused(Refusal {
+            number: 12,
+            place: s.len(),
+        });
+    }
+    if read_packed::unused_bits(s, values, m, Width::Two) != 0 {
+        return PartsStep::Refused(Refusal {
+            number: 18,
+            place: steps - 1,
+        });
+    }
+    PartsStep::Fits {
+        values,
+        first: State {
+            room: 0,
+            from: steps,
+            last: 0,
+            head: at,
+            size,
+            passed: 0,
+            at: steps,
+        },
+    }
+}
+
+// A list, whose entries stay in the row where a later one is refused.
+fn run_list(s: &[u8], n: usize, held: ListRule, store: bool, c: Cursor, row: &mut [u8]) -> ListStep
+    requires { ⌜ c .at ≤ length (now s) ⌝ }
+    requires { ⌜ (n ≤ length (now row)) × (n ≤ most-samples) ⌝ }
+    ensures { λ r. ⌜ list-left r (now (row .exit)) ≡ list-run (now (s .entry)) (c .at) n store held (now (row .entry)) ⌝ }
+{
+    let counted = read_count(s, n, c);
+    match counted {
+        CountStep::Refused(why) => ListStep::Refused(why),
+        CountStep::Of(m, next) => {
+            if m == 0 {
+                return ListStep::Listed(next);
+            }
+            let laid = lay_parts(s, n, m, next.at);
+            match laid {
+                PartsStep::Refused(why) => ListStep::Refused(why),
+                PartsStep::Fits { values, first } => {
+                    all_entries(s, n, values, store, held, first, m, row)
+                }
+            }
+        }
+    }
+}
+
+// The list at `c`, of n samples. With `store` its values are put into the row's first n bytes, which hold what the list is against, and a
+// refusal leaves them zero; without it the list is only checked and the row stays.
+pub fn apply_list(
+    s: &[u8],
+    n: usize,
+    held: ListRule,
+    store: bool,
+    c: Cursor,
+    row: &mut [u8],
+) -> ListStep
+    requires { ⌜ c .at ≤ length (now s) ⌝ }
+    requires { ⌜ (n ≤ length (now row)) × (n ≤ most-samples) ⌝ }
+    ensures { λ r. ⌜ list-left r (now (row .exit)) ≡ listed store held n (now (s .entry)) (c .at) (now (row .entry)) ⌝ }
+{
+    let got = run_list(s, n, held, store, c, row);
+    match got {
+        ListStep::Listed(next) => ListStep::Listed(next),
+        ListStep::Refused(why) => {
+            if store {
+                base_rows::clear(row, n);
+                return ListStep::Refused(why);
+            }
+            ListStep::Refused(why)
+        }
+    }
+}

@@ -1,0 +1,5 @@
+pub mod StoreLaws
+pub mod WidthLaws
+pub mod PutLaws
+pub mod ReadsAt
+pub mod CheckLaws

@@ -1,0 +1,18 @@
+-- `read_packed::unpack_categories` meets its contract.
+-- Assumes nothing.
+use borrow.Author.Needs.{needs}
+use Rattle.read_packed.proofs.CheckLaws.{unpack-laws}
+use Rattle.read_packed.proofs.unpack_categories.Statement.{statement}
+use Rattle.read_packed.proofs.unpack_categories.Tie as tie
+
+pub unpack-categories-spec : {M : Type 1} → statement M
+unpack-categories-spec =
+    tie.close
+    (tie.spec
+    (λ c κs. search (unpack-laws, needs))
+    (λ c. search (unpack-laws, needs))
+    (λ c. search (unpack-laws, needs))
+    (λ c κs. search (unpack-laws, needs))
+    (λ c. search (unpack-laws, needs))
+    (λ c. search (unpack-laws, needs))
+    (λ c. search (unpack-laws, needs)))

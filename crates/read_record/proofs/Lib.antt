@@ -1,0 +1,6 @@
+pub mod RuleLaws
+pub mod RowLaws
+pub mod ListLaws
+pub mod CodeLaws
+pub mod PairLaws
+pub mod BodyLaws

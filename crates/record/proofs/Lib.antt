@@ -1,5 +1,0 @@
-pub mod RuleLaws
-pub mod RowLaws
-pub mod ListLaws
-pub mod PairLaws
-pub mod BodyLaws

@@ -1,0 +1,210 @@
+"""Tests of the rows: file A and states made by hand, the law that a walk gives what reads give, and what the cases reach."""
+
+import random
+import unittest
+from itertools import islice
+
+import pgen_header
+import pgen_reference as reference
+from compare import COMMITTED
+from pgen_generate import random_file
+from pgen_header import LEANING_KINDS
+from pgen_parts import join_file
+from pgen_record_damage import RECORD_FAULTS
+from pgen_row_cases import GREATEST_START, GREATEST_STEPS, row_cases, with_leaning_ones
+from pgen_rows import Rows, next_row, start_rows
+from probe_cases import POSSIBLE, RECORD_REFUSALS, ROWS, STEP, refusals_of, reply_to
+from scale_counts import KINDS, Counts
+from test_calls import plain
+from test_reference import A, changed, digits
+
+OUTPUT, WORK = b"\xa5", b"\x5a"
+FIRST = Rows(0x10, 3, 5, 0x40, 0, 25)
+SECOND = FIRST._replace(variant=1, start=27)
+THIRD = FIRST._replace(variant=2, start=31)
+PAST = FIRST._replace(variant=3, start=34)
+
+
+class Walks(unittest.TestCase):
+    """Walks worked out by hand; outputs are one byte longer than they need be, work areas two."""
+
+    def check(self, file, *steps):
+        """Each step's refusal, place, later state, row in the output and row in the work area."""
+        number, place, state = start_rows(file, WORK * 7)
+        self.assertEqual((number, place, state.variant), (0, 0, 0))
+        output, work = OUTPUT * 6, WORK * 7
+        for number, place, later, row, kept in steps:
+            got = next_row(state, file, output, work)
+            state, output, work = later, row + OUTPUT, kept + WORK * 2
+            self.assertEqual(got, (number, place, state, output, work))
+
+    def test_file_A(self):
+        self.assertEqual(start_rows(A, WORK * 5), (0, 0, FIRST))
+        one, two, three = map(digits, ("01230", "02231", "00300"))
+        self.check(A, (0, 0, SECOND, one, one), (0, 0, THIRD, two, one), (0, 0, PAST, three, three),
+                   (11, 0, PAST, three, three), (11, 0, PAST, three, three))
+        one, two = digits("01230"), digits("20031")
+        self.check(changed(A, {20: "30"}), (0, 0, SECOND, one, one), (0, 0, THIRD, two, one))
+
+    def test_plain_mode(self):
+        state = Rows(0x02, 2, 5, 0xc0, 0, 13)
+        one, two = digits("01230"), digits("32100")
+        self.check(plain(2, 5, "c0", "03e4001b00"), (0, 0, state._replace(variant=1, start=15), one, one),
+                   (0, 0, state._replace(variant=2, start=17), two, two))
+
+    def test_refused_anchor(self):
+        none, three = OUTPUT * 5, digits("00300")
+        kept = {"refusal": 18, "place": 26}
+        self.check(changed(A, {26: "04"}), (18, 26, SECOND._replace(**kept), none, bytes(5)),
+                   (18, 26, THIRD._replace(**kept), none, bytes(5)), (0, 0, PAST, three, three), (11, 0, PAST, three, three))
+        later = changed(A, {26: "04", 31: "06"})
+        kept = {"refusal": 16, "place": 31}
+        self.assertEqual(next_row(THIRD._replace(refusal=18, place=26), later, none, WORK * 5),
+                         (16, 31, PAST._replace(**kept), none, bytes(5)))
+
+    def test_refused_leaning_record(self):
+        one, three = digits("01230"), digits("00300")
+        self.check(changed(A, {30: "04"}), (0, 0, SECOND, one, one), (16, 30, THIRD, one, one), (0, 0, PAST, three, three))
+        head = "6c1b10" "03000000" "05000000" "00" "1900000000000000"
+        file = bytes.fromhex(head + "2002" "020003" + "e400" "" "010102")
+        state = Rows(0x10, 3, 5, 0, 0, 25)
+        self.check(file, (0, 0, state._replace(variant=1, start=27), one, one),
+                   (12, 27, state._replace(variant=2, start=27), one, one),
+                   (0, 0, state._replace(variant=3, start=30), digits("02230"), one))
+
+    def test_refused_start(self):
+        for length in range(len(A)):
+            self.assertEqual(start_rows(A[:length], b""), reference.header_check(A[:length])[:2] + (None,))
+        for size in range(5):
+            self.assertEqual(start_rows(A, WORK * size), (10, 0, None))
+
+
+class States(unittest.TestCase):
+    """Any state, any file and any buffers."""
+
+    def unchanged(self, state, file, number, place, output=OUTPUT * 5, work=WORK * 5):
+        """A refusal before the record changes nothing."""
+        self.assertEqual(next_row(state, file, output, work), (number, place, state, output, work))
+
+    def test_order(self):
+        state = Rows(0x10, 16777217, 65537, 0x40, 16777217, 99)
+        self.unchanged(state, b"", 4, 3, b"", b"")
+        state = state._replace(M=16777216)
+        self.unchanged(state, b"", 4, 7, b"", b"")
+        state = state._replace(N=65536)
+        self.unchanged(state, b"", 10, 0, OUTPUT * 65535, WORK * 65536)
+        self.unchanged(state, b"", 10, 0, OUTPUT * 65536, WORK * 65535)
+        self.unchanged(state, b"", 11, 0, OUTPUT * 65536, WORK * 65536)
+        self.unchanged(PAST, A, 10, 0, OUTPUT * 4)
+        self.unchanged(FIRST._replace(M=0), A, 11, 0)
+        for variant in (3, 4, 65536, 2**64 - 1):
+            self.unchanged(FIRST._replace(variant=variant), b"", 11, 0)
+        self.unchanged(FIRST._replace(start=99), changed(A, {20: "25"}), 8, 20)
+        self.unchanged(FIRST._replace(start=99), A, 9, 34)
+
+    def test_types(self):
+        for state, byte, place in ((FIRST, "25", 20), (FIRST, "22", 20), (FIRST, "23", 20), (FIRST, "28", 20),
+                                   (SECOND, "50", 20), (SECOND, "80", 20), (THIRD, "05", 21), (THIRD, "4c", 21)):
+            self.unchanged(state, changed(A, {place: byte}), 8, place)
+        wide = Rows(0x10, 65538, 1, 0x04, 65537, 131104)
+        file = bytes(131100) + bytes([2, 2, 0, 1, 0])
+        self.unchanged(wide._replace(variant=65536), file, 8, 131100, b"\xa5", b"\2")
+        later = wide._replace(variant=65538, start=131105)
+        self.assertEqual(next_row(wide, file, b"\xa5", b"\2"), (0, 0, later, b"\2", b"\2"))
+        for its_type in (5, 8, 16, 32, 64, 128, 255):
+            self.unchanged(wide, file[:131101] + bytes([its_type]) + file[131102:], 8, 131101)
+
+    def test_ends(self):
+        for cut in range(25, 27):
+            self.unchanged(FIRST, A[:cut], 9, cut)
+        self.assertEqual(next_row(FIRST, A[:27], OUTPUT * 5, WORK * 5)[:3], (0, 0, SECOND))
+        for cut in range(25):
+            self.unchanged(FIRST, A[:cut], 9, cut)
+        plain_state = Rows(0x02, 9, 9, 0x00, 7, 12)
+        self.unchanged(plain_state, bytes(14), 9, 14, OUTPUT * 9, WORK * 9)
+        self.assertEqual(next_row(plain_state, bytes(15), OUTPUT * 9, WORK * 9),
+                         (0, 0, plain_state._replace(variant=8, start=15), bytes(9), bytes(9)))
+
+    def test_bytes_past_the_end_are_0(self):
+        later = {"start": 12, "refusal": 12, "place": 12}
+        for cut in (12, 20, 22):
+            self.assertEqual(next_row(FIRST._replace(start=12), A[:cut], OUTPUT * 5, WORK * 5),
+                             (12, 12, SECOND._replace(**later), OUTPUT * 5, bytes(5)))
+        self.assertEqual(next_row(SECOND._replace(start=15), A[:21], OUTPUT * 5, WORK * 5),
+                         (12, 15, THIRD._replace(start=15), OUTPUT * 5, WORK * 5))
+        four = Rows(0x10, 1, 5, 0x03, 0, 18)
+        self.assertEqual(next_row(four, bytes(18) + b"\xe4\0\0\2", OUTPUT * 5, WORK * 5)[:3],
+                         (0, 0, four._replace(variant=1, start=20)))
+
+    def test_any_row_in_the_work_area(self):
+        for byte, row in (("20", "5a025a5a01"), ("30", "5a005a5a01")):
+            self.assertEqual(next_row(SECOND, changed(A, {20: byte}), OUTPUT * 6, WORK * 7),
+                             (0, 0, THIRD, bytes.fromhex(row) + OUTPUT, WORK * 7))
+        work = bytes([0, 1, 2, 255, 3])
+        self.assertEqual(next_row(SECOND, changed(A, {20: "30"}), OUTPUT * 5, work), (0, 0, THIRD, bytes([2, 0, 0, 255, 1]), work))
+        for work in (b"\x5a\2\x5a\x5a\x5a", b"\x5a\x5a\x5a\x5a\1"):
+            self.assertEqual(next_row(SECOND, A, OUTPUT * 5, work), (17, 29, THIRD, OUTPUT * 5, work))
+
+    def test_no_samples(self):
+        empty = Rows(0x02, 1, 0, 0, 0, 2)
+        self.assertEqual(next_row(empty, b"\1\2", b"", WORK), (0, 0, empty._replace(variant=1), b"", WORK))
+
+
+class Law(unittest.TestCase):
+    """From a start on the same file the v-th row is what a read of variant v gives."""
+
+    def check(self, file):
+        """A walk to the end and past it."""
+        number, place, state = start_rows(file, WORK * 65536)
+        self.assertEqual((number, place), (0, 0))
+        header = pgen_header.read_header(file)
+        output, work = OUTPUT * (header.N + 1), WORK * (header.N + 1)
+        anchor = None
+        for variant, kind in enumerate(header.types):
+            wanted = reference.read(file, variant, output, WORK * header.N)[:3]
+            number, place, state, output, work = next_row(state, file, output, work)
+            self.assertEqual((number, place, output), wanted)
+            if kind not in LEANING_KINDS:
+                anchor = (number, place), output[:header.N] if number == 0 else bytes(header.N)
+            self.assertEqual(state[4:], (variant + 1, header.starts[variant + 1], *anchor[0]))
+            self.assertEqual(work, anchor[1] + WORK)
+        self.assertEqual(next_row(state, file, output, work), (11, 0, state, output, work))
+
+    def test_valid_files(self):
+        self.addCleanup(setattr, pgen_header, "BLOCK_SIZE", 65536)
+        rng = random.Random(23)
+        for _ in range(200):
+            pgen_header.BLOCK_SIZE = rng.choice([65536, 1, 2, 3, 5, 8, 16])
+            N = rng.choice([1, 2, 3, 4, 5, 8, 9, 63, 64, 65, 129, 256, 257, 300])
+            self.check(join_file(random_file(rng, N, rng.randint(1, 20)))[0])
+
+    def test_refused_records(self):
+        rng = random.Random(24)
+        for fault in RECORD_FAULTS * 3:
+            self.check(with_leaning_ones(rng, fault).file)
+
+
+class Reached(unittest.TestCase):
+    """What the committed cases of rows hold."""
+
+    def test_reached(self):
+        cases = list(islice(row_cases(random.Random(f"rows {COMMITTED['seed']}")), COMMITTED["rows"]))
+        counts, steps_elsewhere = Counts(), set()
+        for case in cases:
+            refusals = list(refusals_of(case, *reply_to(case)))
+            counts.file("any", case.first)
+            counts.call(case, refusals)
+            if case.second:
+                steps_elsewhere.update(number for _, number in refusals[1:])
+        for call in (ROWS, STEP):
+            self.assertEqual([n for n in [0] + POSSIBLE[call] if not counts.of["call", call, n]], [])
+        self.assertEqual([kind for kind in KINDS if not counts.of["kind", "row", kind]], [])
+        self.assertEqual([n for n in RECORD_REFUSALS if not counts.of["again", n]], [])
+        self.assertLessEqual({0, 8, 9, 10, 11, 12, 13, 16, 17, 18}, steps_elsewhere)
+        self.assertLessEqual({0, 1, GREATEST_STEPS}, {case.x for case in cases})
+        self.assertLessEqual(max(case.x for case in cases), GREATEST_STEPS)
+        self.assertLessEqual(max(len(case.second) for case in cases), GREATEST_START)
+
+
+if __name__ == "__main__":
+    unittest.main()
