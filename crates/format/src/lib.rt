@@ -1,5 +1,7 @@
-// No code: what a PGEN file is made of, as values (a pair code's pair, the two variant numbers), and what the public calls answer.
+// What a PGEN file is made of, as values (a pair code's pair, the two variant numbers), and what the public calls answer.
 // What they mean is defined in specs/; the laws of those definitions are in proofs/.
+ghost use mathlib.Core.Path.{_≡_};
+ghost use Rattle.format.specs.Base.{refusal};
 
 // 01, Categories and kinds: a pair code, its two categories, its code once 0 and 2 are exchanged, and whether that turns the pair's order.
 pub struct Pair {
@@ -42,6 +44,13 @@ pub struct Fields {
 pub struct Refusal {
     pub number: u8,
     pub place: usize,
+}
+
+// The one spot where a refusal is made.
+pub fn refusal_at(number: u8, place: usize) -> Refusal
+    ensures { λ r. ⌜ r ≡ refusal number place ⌝ }
+{
+    Refusal { number, place }
 }
 
 // 01, Replies: what a header check and a whole-file check give.
