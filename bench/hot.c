@@ -27,7 +27,7 @@ PAIR(sums, sink += timed_sum_lengths(lengths, 65536, width), sink += plain_sum_l
 
 static void ours_lists(void *on)
 {
-    for (usize k = 0; k < LISTS; k++) timed_apply_list(lists, starts[k + 1], starts[k], n, 1, row, sizeof row);
+    for (usize k = 0; k < LISTS; k++) timed_put_list(lists, starts[k + 1], starts[k], n, row, sizeof row);
 }
 
 static void plain_lists_(void *on)
@@ -127,7 +127,7 @@ static void lists_of(usize samples, usize count)
     memset(other, 0, sizeof other);
     struct told told;
     for (usize k = 0; k < LISTS; k++) {
-        if (timed_apply_list(lists, starts[k + 1], starts[k], n, 1, row, sizeof row) != starts[k + 1]) fail("list");
+        if (timed_put_list(lists, starts[k + 1], starts[k], n, row, sizeof row) != starts[k + 1]) fail("list");
         if (plain_list(lists, lists + starts[k], lists + starts[k + 1], n, 0, 0, 0, 1, other, &told) != lists + starts[k + 1]) fail("list in C");
         same("list");
     }

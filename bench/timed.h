@@ -20,7 +20,7 @@ void timed_copy(const u8 *from, usize from_size, usize n, u8 *to, usize to_size)
 void timed_clear(u8 *row, usize row_size, usize n);
 void timed_exchange_row(u8 *row, usize row_size, usize n);
 usize timed_first_above_3(const u8 *row, usize row_size);
-usize timed_apply_list(const u8 *s, usize size, usize at, usize n, _Bool store, u8 *row, usize row_size);
+usize timed_put_list(const u8 *s, usize size, usize at, usize n, u8 *row, usize row_size);
 usize timed_bad_in_block(const u8 *types, usize size, usize n, _Bool half);
 u64 timed_sum_lengths(const u8 *lengths, usize size, usize width);
 void timed_exchange_values(u8 *s, usize size, usize n);

@@ -4,11 +4,13 @@
                                        seeds for a minute
     python3 compare.py --seed S        the same with the fresh cases of seed S alone, to run a failure again
     python3 compare.py --minutes N     fresh cases for about N minutes, seed after seed
+    python3 compare.py --write         compares nothing: writes the committed cases anew
 
 Prints the seeds it used (a failure names its own), and as its last line 'N passed, M failed'.
 """
 
 import argparse
+import contextlib
 import random
 import subprocess
 import sys
@@ -17,16 +19,21 @@ from itertools import chain
 from pathlib import Path
 
 import pgen_reference as reference
+from listing_cases import check_listings, check_long_listings, check_pieces
+from pgen_byte_cases import byte_cases, table
 from pgen_cases import HEADER, READ, ROWS, Case
-from pgen_limit_cases import limit_cases
+from pgen_limit_cases import limit_cases, second_block_types
+from pgen_parts import FILE_A
 from pgen_row_cases import GREATEST_STEPS, limit_walks
+from pgen_row_damage import row_damage_cases
 from probe_cases import BAD_ENDS, all_cases, fresh_cases, input_bytes, line_of, reply_to
-from program_laws import FILE_A, check_examples, check_flips, check_rows, row_parts
+from program_laws import check_examples, check_flips, check_rows, row_parts
 
 HERE = Path(__file__).resolve().parent
 ROOT = HERE.parent
 COMMITTED = {"seed": 1, "count": 2500, "rows": 250}
 FRESH_CASES = 1500
+PAUSE = 0.005  # seconds between two pieces of an input
 
 
 def run(name, data, check=True):
@@ -67,12 +74,16 @@ class Tally:
             print(f"FAILED: {what}: {first_difference(got, want)}")
 
 
+def made():
+    """The committed cases, with their lines, and the table of what every value gets: under each file's name what must stand in it."""
+    data, want = joined(chain(all_cases(**COMMITTED), byte_cases(), row_damage_cases()))
+    return {"crates/probe/stdin": data, "crates/probe/stdout": want, "tests/every_value.txt": table(reply_to).encode()}
+
+
 def committed(tally):
     """The committed cases are what the generator makes (the gate itself runs them)."""
-    data, want = joined(all_cases(**COMMITTED))
-    folder = ROOT / "crates" / "probe"
-    tally.same("crates/probe/stdin", (folder / "stdin").read_bytes(), data)
-    tally.same("crates/probe/stdout", (folder / "stdout").read_bytes(), want)
+    for name, want in made().items():
+        tally.same(name, (ROOT / name).read_bytes(), want)
 
 
 def real_file(tally, path):
@@ -86,14 +97,14 @@ def real_file(tally, path):
     walked = [bytes(map(int, row)) for row in rows[:GREATEST_STEPS]]
     line = run("probe", input_bytes(Case(ROWS, len(walked), 0, file, b"", samples, samples)))
     tally.same(f"rows of real/{path.name}", line.partition(b" w ")[0], row_parts((0, 0, row) for row in walked).encode(), len(walked))
-    tally.same(f"listing of real/{path.name}", run("pgenlist", file), reference.listing(file).encode())
+    tally.same(f"listing of real/{path.name}", listed(file), reference.listing(file).encode())
 
 
 def real_refusal(tally, path):
     """A file made by plink2 that document 01 refuses, with the number and place worked out by hand."""
     refusal, file = path.with_suffix(".refused").read_text().strip(), path.read_bytes()
     for what in (f"refused {refusal}\n", reference.listing(file)):
-        tally.same(f"listing of real/{path.name}", run("pgenlist", file), what.encode())
+        tally.same(f"listing of real/{path.name}", listed(file), what.encode())
 
 
 def real_files(tally):
@@ -102,12 +113,29 @@ def real_files(tally):
         (real_refusal if path.with_suffix(".refused").exists() else real_file)(tally, path)
 
 
+def listed(file):
+    """What the listing program prints for this input."""
+    return run("pgenlist", file)
+
+
+def listed_in_pieces(data, size):
+    """The same for input that comes in pieces; the program may end before it has been given all."""
+    with subprocess.Popen([str(ROOT / "tools" / "run"), "pgenlist"], stdin=subprocess.PIPE, stdout=subprocess.PIPE, bufsize=0) as program:
+        with contextlib.suppress(BrokenPipeError):
+            for at in range(0, len(data), size):
+                program.stdin.write(data[at:at + size])
+                time.sleep(PAUSE)
+        program.stdin.close()
+        return program.stdout.read()
+
+
 def listings(tally):
     """The listing of file A, cut at every length, and of inputs of and above the limit."""
     file = (ROOT / "examples" / "a.pgen").read_bytes()
     inputs = [file[:n] for n in range(len(file) + 1)] + [bytes(65536), bytes(65537)]
     for data in inputs:
-        tally.same(f"listing of {len(data)} bytes", run("pgenlist", data), reference.listing(data).encode())
+        tally.same(f"listing of {len(data)} bytes", listed(data), reference.listing(data).encode())
+    check_pieces(tally, listed_in_pieces, file)
 
 
 def bad_ends(tally):
@@ -122,11 +150,12 @@ def bad_ends(tally):
 
 
 def fresh_limits(tally, seed):
-    """Document 01's "Tested only" cases and the limits of rows, with other files for each seed: they are large, so a run makes them once."""
+    """Document 01's "Tested only" cases, the limits of rows and long listings, with other files for each seed: they are large, so a run makes them once."""
     rng = random.Random(seed)
-    cases = list(chain(limit_cases(rng), limit_walks(rng)))
+    cases = list(chain(limit_cases(rng), limit_walks(rng), second_block_types()))
     data, want = joined(cases)
     tally.same(f"tested only, seed {seed}", run("probe", data), want, len(cases))
+    check_long_listings(tally, listed, seed)
 
 
 def fresh(tally, seed):
@@ -135,13 +164,13 @@ def fresh(tally, seed):
     tally.same(f"fresh cases of seed {seed}", run("probe", data), want, FRESH_CASES)
     check_flips(tally, run, seed)
     check_rows(tally, run, seed)
+    check_listings(tally, listed, seed)
 
 
 def write_committed():
     """Writes the cases that the gate runs."""
-    data, want = joined(all_cases(**COMMITTED))
-    (ROOT / "crates" / "probe" / "stdin").write_bytes(data)
-    (ROOT / "crates" / "probe" / "stdout").write_bytes(want)
+    for name, data in made().items():
+        (ROOT / name).write_bytes(data)
 
 
 def main():

@@ -109,6 +109,15 @@ def sample_cases(rng):
     yield file_case(rng, FLIP, subject_of(large, 0))
 
 
+def second_block_types():
+    """Every type of 4 bits at variant 65,536, and at 65,537 after type 0; the file is its header alone, as no record has a byte."""
+    joined, marks = join_file(FileParts(0x10, 0, 1, [RecordParts(4, None, b"") for _ in range(BLOCK + 2)], []))
+    file = bytearray(joined)
+    for byte in [*range(16), *(high << 4 for high in range(16))]:
+        file[marks.types[BLOCK]] = byte
+        yield Case(HEADER, first=bytes(file))
+
+
 def limit_cases(rng):
     """All of them."""
     yield from block_cases(rng)

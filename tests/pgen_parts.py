@@ -3,6 +3,8 @@
 import pgen_header
 from pgen_record import pack, varint
 
+FILE_A = bytes.fromhex("6c1b1003000000050000004019000000000000002004020403e40002010603010203")  # document 01's small file
+
 
 class ListParts:
     """A difference list in parts; `held_back` has, per entry, the values it must not hold."""

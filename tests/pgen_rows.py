@@ -16,6 +16,9 @@ from pgen_record import read_record
 from pgen_reference import cleared, header_for
 
 
+RECORD_NUMBERS = range(12, 19)
+
+
 class Rows(NamedTuple):
     """A state: what the header said, the next variant and where its record starts, and how the
     last record that leans on none was refused (0 and 0 if it was not)."""
@@ -41,9 +44,9 @@ def start_rows(file, work):
 
 def refuse_state(rows, output, work):
     """What a row is refused for before the file is looked at."""
-    if rows.M > GREATEST_M:
+    if not 1 <= rows.M <= GREATEST_M:
         raise Refused(4, 3)
-    if rows.N > GREATEST_N:
+    if not 1 <= rows.N <= GREATEST_N:
         raise Refused(4, 7)
     if len(output) < rows.N or len(work) < rows.N:
         raise Refused(10, 0)
@@ -57,8 +60,9 @@ def header_of(rows):
     return Header(b"\x6c\x1b" + bytes([rows.mode]) + numbers + bytes([rows.form]))
 
 
-def kind_and_length(rows, file):
-    """The next variant's, from this file's bytes: those past its end count as 0 (8)."""
+def type_and_length(rows, file):
+    """The next variant's, from this file's bytes: those past its end count as 0 (8). A record leans on no anchor
+    that the state does not tell of: one that was read, or refused as a record is."""
     if rows.mode == PLAIN_MODE:
         return 0, up(rows.N, 4)
     header = header_of(rows)
@@ -68,31 +72,33 @@ def kind_and_length(rows, file):
         its_type &= 15
     if not type_allowed(its_type, rows.variant):
         raise Refused(8, place)
+    if its_type in LEANING_KINDS and rows.refusal not in (0, *RECORD_NUMBERS):
+        raise Refused(8, place)
     place = header.length_place(rows.variant)
     return its_type, little(file[place:place + length_width(rows.form)])
 
 
 def next_record(rows, file):
-    """The kind of the next variant's record and where the record ends (8, 9)."""
-    kind, length = kind_and_length(rows, file)
+    """The type of the next variant's record and where the record ends (8, 9)."""
+    its_type, length = type_and_length(rows, file)
     if rows.start + length > len(file):
         raise Refused(9, len(file))
-    return kind, rows.start + length
+    return its_type, rows.start + length
 
 
 def next_row(rows, file, output, work):
     """The next variant's row; a refusal of its record moves the state on, one before it does not."""
     try:
         refuse_state(rows, output, work)
-        kind, end = next_record(rows, file)
+        its_type, end = next_record(rows, file)
     except Refused as refused:
         return refused.number, refused.place, rows, output, work
     later = rows._replace(variant=rows.variant + 1, start=end)
-    leaning = kind in LEANING_KINDS
+    leaning = its_type in LEANING_KINDS
     if leaning and rows.refusal:
         return rows.refusal, rows.place, later, output, work
     try:
-        row = read_record(file, rows.start, end, kind, rows.N, work[:rows.N]).categories
+        row = read_record(file, rows.start, end, its_type, rows.N, work[:rows.N]).categories
     except Refused as refused:
         if not leaning:
             later = later._replace(refusal=refused.number, place=refused.place)

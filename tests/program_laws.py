@@ -5,12 +5,11 @@ import random
 
 from pgen_cases import FLIP, HEADER, READ, ROWS, WRITE, Case, valid_subject
 from pgen_generate import random_file
-from pgen_parts import join_file
+from pgen_parts import FILE_A, join_file
 from pgen_record_damage import RECORD_FAULTS
 from pgen_row_cases import GREATEST_STEPS, with_leaning_ones
 from probe_cases import OUTPUT_FILL, input_bytes
 
-FILE_A = bytes.fromhex("6c1b1003000000050000004019000000000000002004020403e40002010603010203")
 ONE_RECORD = bytes.fromhex("6c1b1001000000050000004016000000000000000105")
 FRESH_FLIPS = 60
 FRESH_WALKS = 40

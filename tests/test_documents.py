@@ -17,6 +17,11 @@ def spans(document):
     return re.findall(r"`([^`\n]+)`", "\n".join(lines))
 
 
+def indented(document):
+    """The lines of its examples."""
+    return [line[4:] for line in document.read_text(encoding="utf-8").splitlines() if line.startswith("    ")]
+
+
 def sources():
     return [f for f in (ROOT / "crates").rglob("*") if f.suffix in (".antt", ".rt")]
 
@@ -60,6 +65,20 @@ class Documents(unittest.TestCase):
         for call, crate, _ in calls():
             self.assertRegex(readme, rf"(?m)^\| `{call}\(.* \| `{crate}`[^|]*\|$")
 
+    def test_signatures_are_those_of_the_sources(self):
+        readme = indented(ROOT / "README.md")
+        for call, crate, name in calls():
+            source = (ROOT / "crates" / crate / "src" / "lib.rt").read_text(encoding="utf-8")
+            signature = re.search(rf"(?ms)^pub (fn {name}\b.*?)\s*^    ensures", source).group(1)
+            line = re.sub(r"\s+", " ", signature).replace("( ", "(").replace(", )", ")").replace(f"fn {name}", f"fn {call}", 1)
+            self.assertIn(line, readme)
+
+    def test_the_example_is_the_crates(self):
+        readme = "\n".join(indented(ROOT / "README.md"))
+        source = (ROOT / "crates" / "example" / "src" / "main.rt").read_text(encoding="utf-8")
+        shown = source[source.index("// The category of a sample") : source.index("fn main")].rstrip()
+        self.assertIn(re.sub(r"\n\n", "\n", shown), readme)
+
     def test_calls_ask_for_nothing(self):
         for call, crate, name in calls():
             source = (ROOT / "crates" / crate / "src" / "lib.rt").read_text(encoding="utf-8")
@@ -67,15 +86,23 @@ class Documents(unittest.TestCase):
             self.assertEqual((contract.count("requires"), contract.count("ensures"), contract.count("≡")), (0, 1, 1), f"{call}: {contract}")
 
     def test_every_edit_is_listed(self):
-        listed = set(spans(ROOT / "docs" / "THEOREMS.md"))
+        listed = set(spans(ROOT / "docs" / "EDITS.md"))
         for edit in edits():
-            self.assertTrue(edit in listed or edit.split("/")[1] in listed, f"THEOREMS.md does not list {edit}")
+            self.assertTrue(edit in listed or edit.split("/")[1] in listed, f"EDITS.md does not list {edit}")
 
     def test_every_crate_has_its_place(self):
         told = set(spans(ROOT / "docs" / "ARCHITECTURE.md"))
         for line in (ROOT / "crates.txt").read_text(encoding="utf-8").splitlines():
             if not line.startswith("#"):
                 self.assertTrue(line.split(":")[0] in told, f"ARCHITECTURE.md does not tell of {line}")
+
+    def test_demands_have_the_words_of_the_readme(self):
+        readme = (ROOT / "README.md").read_text(encoding="utf-8")
+        said = re.findall(r"(?ms)^\d\. (.*?)(?=^\d\. |^$)", readme[readme.index("Three promises") :])[:3]
+        stated = (ROOT / "crates" / "promises" / "proofs" / "Demands.antt").read_text(encoding="utf-8")
+        quoted = re.findall(r'(?ms)^-- "([^"]*)"\npub record Demand-\d ', stated)
+        self.assertEqual([" ".join(re.sub(r"(?m)^-- ", "", words).split()) for words in quoted], [" ".join(words.split()) for words in said])
+        self.assertEqual(len(quoted), 3)
 
     def test_names_are_there(self):
         words = set()

@@ -12,6 +12,7 @@ from pgen_header import LEANING_KINDS
 from pgen_parts import join_file
 from pgen_record_damage import RECORD_FAULTS
 from pgen_row_cases import GREATEST_START, GREATEST_STEPS, row_cases, with_leaning_ones
+from pgen_row_damage import damaged, file_B, row_damage_cases
 from pgen_rows import Rows, next_row, start_rows
 from probe_cases import POSSIBLE, RECORD_REFUSALS, ROWS, STEP, refusals_of, reply_to
 from scale_counts import KINDS, Counts
@@ -96,7 +97,8 @@ class States(unittest.TestCase):
         self.unchanged(state, b"", 10, 0, OUTPUT * 65536, WORK * 65535)
         self.unchanged(state, b"", 11, 0, OUTPUT * 65536, WORK * 65536)
         self.unchanged(PAST, A, 10, 0, OUTPUT * 4)
-        self.unchanged(FIRST._replace(M=0), A, 11, 0)
+        self.unchanged(FIRST._replace(M=0, N=0), A, 4, 3, b"", b"")
+        self.unchanged(FIRST._replace(N=0, variant=3), A, 4, 7, b"", b"")
         for variant in (3, 4, 65536, 2**64 - 1):
             self.unchanged(FIRST._replace(variant=variant), b"", 11, 0)
         self.unchanged(FIRST._replace(start=99), changed(A, {20: "25"}), 8, 20)
@@ -145,9 +147,52 @@ class States(unittest.TestCase):
         for work in (b"\x5a\2\x5a\x5a\x5a", b"\x5a\x5a\x5a\x5a\1"):
             self.assertEqual(next_row(SECOND, A, OUTPUT * 5, work), (17, 29, THIRD, OUTPUT * 5, work))
 
-    def test_no_samples(self):
-        empty = Rows(0x02, 1, 0, 0, 0, 2)
-        self.assertEqual(next_row(empty, b"\1\2", b"", WORK), (0, 0, empty._replace(variant=1), b"", WORK))
+    def test_no_anchor(self):
+        for number in set(range(1, 256)) - set(RECORD_REFUSALS):
+            foreign = {"refusal": number, "place": 99}
+            self.unchanged(SECOND._replace(**foreign), A, 8, 20)
+            self.unchanged(SECOND._replace(start=99, **foreign), A, 8, 20)
+            self.assertEqual(next_row(THIRD._replace(**foreign), A, OUTPUT * 5, WORK * 5)[:3], (0, 0, PAST))
+        for number in RECORD_REFUSALS:
+            foreign = {"refusal": number, "place": 99}
+            self.assertEqual(next_row(SECOND._replace(**foreign), A, OUTPUT * 5, WORK * 5),
+                             (number, 99, THIRD._replace(**foreign), OUTPUT * 5, WORK * 5))
+        accepted = SECOND._replace(place=99)
+        self.assertEqual(next_row(accepted, A, OUTPUT * 5, digits("01230"))[:3], (0, 0, THIRD._replace(place=99)))
+
+    def test_ranges(self):
+        for M, N, place in ((0, 5, 3), (16777217, 0, 3), (2**32 - 1, 5, 3), (3, 0, 7), (16777216, 65537, 7), (1, 2**32 - 1, 7)):
+            self.unchanged(FIRST._replace(M=M, N=N, variant=M, start=2**64 - 1, refusal=19), b"", 4, place, b"", b"")
+        self.assertEqual(next_row(Rows(0x02, 1, 1, 0, 0, 12), A, OUTPUT, WORK)[:2], (18, 12))
+        self.assertEqual(next_row(Rows(0x02, 16777216, 5, 0, 0, 12), A, OUTPUT * 5, WORK * 5)[3], digits("12100"))
+
+    def test_starts_past_the_end(self):
+        for start in (35, 2**32 - 1, 2**63, 2**64 - 1):
+            for state in (FIRST, SECOND, THIRD):
+                self.unchanged(state._replace(start=start), A, 9, 34)
+            self.unchanged(Rows(0x02, 3, 5, 0, 0, start), A, 9, 34)
+
+    def any_state(self, rng):
+        """A state of file A with one or two fields that no start gave."""
+        others = {"mode": [0x02, 0x10], "M": [0, 1, 16777216, 16777217], "N": [0, 1, 4, 6, 65537], "form": [0, 0x44, 0xc0, 0x83], "variant": range(5),
+                  "start": range(40), "refusal": range(256), "place": range(40)}
+        names = rng.sample(sorted(others), rng.randint(1, 2))
+        return rng.choice([FIRST, SECOND, THIRD, PAST])._replace(**{name: rng.choice(others[name]) for name in names})
+
+    def test_any_state_gets_a_number_of_the_table(self):
+        rng, reached = random.Random(25), set()
+        for _ in range(6000):
+            file = bytearray(A[:rng.choice([34, 34, 34, rng.randrange(34)])])
+            for _ in range(rng.randrange(3) if file else 0):
+                file[rng.randrange(len(file))] = rng.choice([0, 1, 2, 3, 0x80, rng.randrange(256)])
+            state, output, work = self.any_state(rng), OUTPUT * rng.choice([4, 5, 6, 7]), WORK * rng.choice([4, 5, 6, 7])
+            number, _, later, said, kept = next_row(state, bytes(file), output, work)
+            reached.add(number)
+            self.assertEqual(later.variant, state.variant + (number not in (4, 8, 9, 10, 11)))
+            self.assertEqual((len(said), len(kept)), (len(output), len(work)))
+            if number:
+                self.assertEqual(said, output)
+        self.assertEqual(reached, {0, 4, *POSSIBLE[STEP]})
 
 
 class Law(unittest.TestCase):
@@ -160,11 +205,11 @@ class Law(unittest.TestCase):
         header = pgen_header.read_header(file)
         output, work = OUTPUT * (header.N + 1), WORK * (header.N + 1)
         anchor = None
-        for variant, kind in enumerate(header.types):
+        for variant, its_type in enumerate(header.types):
             wanted = reference.read(file, variant, output, WORK * header.N)[:3]
             number, place, state, output, work = next_row(state, file, output, work)
             self.assertEqual((number, place, output), wanted)
-            if kind not in LEANING_KINDS:
+            if its_type not in LEANING_KINDS:
                 anchor = (number, place), output[:header.N] if number == 0 else bytes(header.N)
             self.assertEqual(state[4:], (variant + 1, header.starts[variant + 1], *anchor[0]))
             self.assertEqual(work, anchor[1] + WORK)
@@ -182,6 +227,12 @@ class Law(unittest.TestCase):
         rng = random.Random(24)
         for fault in RECORD_FAULTS * 3:
             self.check(with_leaning_ones(rng, fault).file)
+
+    def test_each_bit_turned(self):
+        files = [file for small in (A, file_B()) for _, file in damaged(small) if reference.header_check(file)[0] == 0]
+        self.assertGreater(len(files), 500)
+        for file in files:
+            self.check(file)
 
 
 class Reached(unittest.TestCase):
@@ -204,6 +255,13 @@ class Reached(unittest.TestCase):
         self.assertLessEqual({0, 1, GREATEST_STEPS}, {case.x for case in cases})
         self.assertLessEqual(max(case.x for case in cases), GREATEST_STEPS)
         self.assertLessEqual(max(len(case.second) for case in cases), GREATEST_START)
+
+    def test_damage(self):
+        own, elsewhere = set(), set()
+        for case in row_damage_cases():
+            (elsewhere if case.second else own).update(refusals_of(case, *reply_to(case)))
+        self.assertLessEqual({(ROWS, number) for number in range(2, 11)} | {(STEP, number) for number in [0, 11] + RECORD_REFUSALS}, own)
+        self.assertLessEqual({(STEP, number) for number in [0, 8, 9, 11] + RECORD_REFUSALS}, elsewhere)
 
 
 if __name__ == "__main__":

@@ -1,23 +1,19 @@
 -- A byte at a place of a list.
 -- Assumes nothing.
-use mathlib.Core.Path.{_≡_}
+use mathlib.Core.Path.{_≡_, refl}
 use Prim.Native.Nat.{ℕ, suc, _+_, _-_, _*_, _≤_, _<_}
-use mathlib.Core.List.{List, [], _∷_}
+use mathlib.Core.List.{List}
 use lib.ListN.{length, drop, getD, length-drop, drop-of-length-le}
 use lib.Seq.{drop-cons}
 use native.Mathlib.Omega.{arith}
 use Rattle.format.specs.declared.Refusal.{Refusal}
-use Rattle.format.specs.Base.{refusal, Bytes, place-of}
+use Rattle.format.specs.Base.{refusal, place-of}
 use Rattle.format.specs.Numbers.{read-number}
 use Rattle.format.proofs.Rules.{split}
+pub use Rattle.head_index.proofs.ByIndex.{bytes-of}
 use Rattle.base_cursor.specs.Steps.{byte-at}
 use Rattle.base_cursor.specs.declared.Cursor.{Cursor}
 use Rattle.base_cursor.specs.declared.ByteStep.the-variants.{Byte, Refused}
-
--- a slice's elements are bytes
-pub bytes-of : (l : List ℕ) → ((i : ℕ) → getD l i 0 < 256) → Bytes l
-bytes-of [] f = tt
-bytes-of (x ∷ l) f = (f 0, bytes-of l (λ i. f (suc i)))
 
 -- where what is left of a list begins
 pub here : (l : List ℕ) (at : ℕ) → at ≤ length l → place-of (length l) (drop at l) ≡ at
@@ -30,9 +26,9 @@ byte-there l at h =
     let z : 0 * 256 + getD l at 0 ≡ getD l at 0 = omega arith in
     rw (drop-cons l at 0 h, e, z)
 
-pub byte-short : (l : List ℕ) (at : ℕ) → length l ≤ at → Refused (refusal 12 (length l)) ≡ byte-at l at
+pub byte-short : (l : List ℕ) (at : ℕ) → length l ≤ at → (why : Refusal) → why ≡ refusal 12 (length l) → Refused why ≡ byte-at l at
 unfolding byte-at read-number
-byte-short l at h = rw (drop-of-length-le l h)
+byte-short l at h why e = rw (e, drop-of-length-le l h)
 
 pub ruleset byte-laws = (byte-there, byte-short)
 
@@ -45,7 +41,7 @@ pub record ByteRead (l : List ℕ) (at b : ℕ) (next : Cursor) : Type 0 where
 pub byte-read : (l : List ℕ) (at b : ℕ) (next : Cursor) → Byte b next ≡ byte-at l at → ByteRead l at b next
 byte-read l at b next e =
     split (suc at) (length l) (λ h. let q = byte-there l at h in record { inside = h; value = cc; moved = cc })
-    (λ h. let q = byte-short l at (omega arith) in let z : _≡_ {A = ℕ} 0 1 = cc in absurd (omega arith))
+    (λ h. let q = byte-short l at (omega arith) _ refl in let z : _≡_ {A = ℕ} 0 1 = cc in absurd (omega arith))
 
 -- and where none was
 pub record ByteRefused (l : List ℕ) (at : ℕ) (why : Refusal) : Type 0 where
@@ -57,4 +53,4 @@ byte-refused l at why e =
     split (suc at) (length l) (λ h. let q = byte-there l at h in let z : _≡_ {A = ℕ} 0 1 = cc in absurd (omega arith))
     (λ h.
     let g : length l ≤ at = omega arith in
-    let q = byte-short l at g in record { outside = g; is = cc })
+    let q = byte-short l at g _ refl in record { outside = g; is = cc })

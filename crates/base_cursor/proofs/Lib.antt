@@ -1,4 +1,5 @@
 pub mod ByteLaws
-pub mod WithinLaws
 pub mod VarintLaws
+pub mod WithinLaws
 pub mod ShortLaws
+pub mod NumberLaws

@@ -59,6 +59,29 @@ value-small l first more least at n c y h r e q =
     through (ok v x) p i = let q′ : n ≡ v = cc in omega (arith, few-limit (more - 1) (omega arith))
     through (refused why) p i = let z : _≡_ {A = ℕ} 0 1 = cc in absurd (omega arith)
 
+-- ---- a value that was read ends further on
+
+abbrev Fewer : List ℕ → ℕ → List ℕ → Type 0
+Fewer bs n left = length left < length bs
+
+within-fewer : (end first more least : ℕ) (bs : List ℕ) → Holds (Fewer bs) (read-varint-within end first more least bs)
+unfolding read-varint-within
+within-fewer end first zero least [] = tt
+within-fewer end first (suc more) least [] = tt
+within-fewer end first zero least (b ∷ bs) =
+    by-need (Fewer (b ∷ bs)) (ltb b 16) _ _ _ (λ t. by-need (Fewer (b ∷ bs)) (leb least b) _ _ _ (λ u. omega arith))
+within-fewer end first (suc more) least (b ∷ bs) =
+    by-test (Holds (Fewer (b ∷ bs))) (ltb b 128) (λ t. by-need (Fewer (b ∷ bs)) (leb least b) _ _ _ (λ u. omega arith))
+    (λ t. by-map (Fewer bs) (Fewer (b ∷ bs)) (read-varint-within end first more 1 bs) _ (within-fewer end first more 1 bs) (λ n left h. omega arith))
+
+pub value-past : (l : List ℕ) (first more least at n : ℕ) (c : Cursor) → Value n c ≡ varint-rest l first more least at → at < c .at
+value-past l first more least at n c e =
+    through (read-varint-within (length l) first more least (drop at l)) e (within-fewer (length l) first more least (drop at l))
+  where
+    through : (m : Out ℕ) → Value n c ≡ varint-step (length l) m → Holds (Fewer (drop at l)) m → at < c .at
+    through (ok v left) p i = let q : c .at ≡ length l - length left = cc in omega (arith, i, length-drop at l)
+    through (refused why) p i = let z : _≡_ {A = ℕ} 0 1 = cc in absurd (omega arith)
+
 -- ---- the answer and the reader
 
 -- what is known where a varint was read: the cursor after it, and the reader's own answer

@@ -27,13 +27,13 @@ use Rattle.base_cursor.proofs.VarintLaws.{value-small}
 abbrev pub Says : List ℕ → ℕ → ℕ → ℕ → ℕ → VarintStep → Type 0
 Says l first more least at r = r ≡ varint-rest l first more least at
 
-no-byte : (l : List ℕ) (end first more least at : ℕ) → length l ≤ at → read-varint-within end first more least (drop at l) ≡ refuse 12 end
+pub no-byte : (l : List ℕ) (end first more least at : ℕ) → length l ≤ at → read-varint-within end first more least (drop at l) ≡ refuse 12 end
 unfolding read-varint-within
 no-byte l end first zero least at h = rw (drop-of-length-le l h)
 no-byte l end first (suc more) least at h = rw (drop-of-length-le l h)
 
 -- an answer with its value changed
-abbrev onto : (ℕ → ℕ) → VarintStep → VarintStep
+abbrev pub onto : (ℕ → ℕ) → VarintStep → VarintStep
 onto f (Value n end) = Value (f n) end
 onto f (Refused why) = Refused why
 
@@ -57,7 +57,7 @@ module _ (l : List ℕ) (first more least at : ℕ) (got : ByteStep) (e : got �
     unfolding read-varint-within
     last z = rw (z, drop-cons l at 0 (h .inside), h .value, h .moved, add-one)
 
-    abbrev joined : ℕ → ℕ
+    abbrev pub joined : ℕ → ℕ
     joined n = 128 * n + (b - 128)
 
     further : (more ≡ 0 → ⊥) → read-varint-within (length l) first more least (drop at l)
@@ -72,22 +72,23 @@ module _ (l : List ℕ) (first more least at : ℕ) (got : ByteStep) (e : got �
     moved = here l (next .at) (rw (h .moved) (omega (arith, h .inside)))
 
     -- "in its shortest form" comes first: the byte is 0 then, so no other test would refuse it earlier
-    pub low-here : b < least → least ≤ 1 → Says l first more least at (Refused (refusal 15 first))
-    low-here a o =
-        split 1 more (λ m. simp (further (λ z. omega arith), lt-ltb b 128 (omega arith), lt-leb least b a))
-        (λ m. simp (last (omega arith), lt-ltb b 16 (omega arith), lt-leb least b a))
+    pub low-here : b < least → least ≤ 1 → (why : Refusal) → why ≡ refusal 15 first → Says l first more least at (Refused why)
+    low-here a o why f =
+        rw f
+        (split 1 more (λ m. simp (further (λ z. omega arith), lt-ltb b 128 (omega arith), lt-leb least b a))
+        (λ m. simp (last (omega arith), lt-ltb b 16 (omega arith), lt-leb least b a)))
 
     pub last-here : least ≤ b → more ≡ 0 → b < 16 → Says l first more least at (Value b next)
     last-here g z a = simp (last z, lt-ltb b 16 a, le-leb least b g, moved)
 
-    pub big-here : more ≡ 0 → 16 ≤ b → Says l first more least at (Refused (refusal 15 first))
-    big-here z a = simp (last z, le-ltb b 16 a)
+    pub big-here : more ≡ 0 → 16 ≤ b → (why : Refusal) → why ≡ refusal 15 first → Says l first more least at (Refused why)
+    big-here z a why f = rw f (simp (last z, le-ltb b 16 a))
 
     pub small-here : least ≤ b → (more ≡ 0 → ⊥) → b < 128 → Says l first more least at (Value b next)
     small-here g z a = simp (further z, lt-ltb b 128 a, le-leb least b g, moved)
 
     module _ (z : more ≡ 0 → ⊥) (a : 128 ≤ b) (r : VarintStep) (told : Says l first (more - 1) 1 (next .at) r) where
-      rest : Says l first more least at (onto joined r)
+      pub rest : Says l first more least at (onto joined r)
       rest = rw (told, further z, le-ltb b 128 a, onto-step)
 
       pub value-here : (n : ℕ) (end : Cursor) → r ≡ Value n end → Says l first more least at (Value (128 * n + (b - 128)) end)

@@ -1,4 +1,4 @@
-// Rows, a byte for each sample: filled, cleared, copied, exchanged.
+// Rows, a byte for each sample: filled, cleared, copied, exchanged; and the larger of two bytes, for flat loops that look for a largest.
 ghost use mathlib.Core.Path.{_≡_};
 ghost use Prim.Native.Nat.{_≤_};
 ghost use mathlib.Core.Bool.{true};
@@ -55,4 +55,11 @@ pub fn exchange_row(row: &mut [u8], n: usize)
     for i in 0..n {
         row[i] = exchanged(row[i]);
     }
+}
+
+// The larger of two bytes.
+pub fn larger(a: u8, b: u8) -> u8
+    ensures { λ r. ⌜ (a ≤ r) × (b ≤ r) ⌝ }
+{
+    if a < b { b } else { a }
 }

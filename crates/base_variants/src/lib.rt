@@ -1,6 +1,6 @@
 // From a variant's number in the file to its number in its block, and back.
 ghost use mathlib.Core.Path.{_≡_};
-ghost use Prim.Native.Nat.{_≤_};
+ghost use Prim.Native.Nat.{_≤_, _<_};
 ghost use Rattle.format.specs.Limits.{variants-to-a-block};
 ghost use Rattle.format.specs.Variant.{block-of, in-block, in-file};
 use format::BlockVariant;
@@ -23,7 +23,7 @@ pub fn in_block(v: FileVariant) -> BlockVariant
 
 // The number in the file of a variant of a block; a file has at most 256 blocks.
 pub fn in_file(block: usize, i: BlockVariant) -> FileVariant
-    requires { ⌜ (block ≤ 256) × (i .0 ≤ variants-to-a-block) ⌝ }
+    requires { ⌜ (block ≤ 256) × (i .0 < variants-to-a-block) ⌝ }
     ensures { λ r. ⌜ r ≡ in-file variants-to-a-block block i ⌝ }
 {
     FileVariant(block * VARIANTS_TO_A_BLOCK + i.0)

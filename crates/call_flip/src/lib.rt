@@ -20,7 +20,8 @@ fn past_last(set: &[u8], m: usize) -> u8
 // 01: "For flips 21 comes next." All records are checked before a byte is written. A set of wrong size is 10, as a short work area is, so its test may
 // follow the opening.
 pub fn flip(file: &mut [u8], set: &[u8], work: &mut [u8]) -> Reply
-    ensures { λ r. ⌜ flip-left r (now (file .exit)) (now (work .exit)) ≡ flip-call variants-to-a-block (now (file .entry)) (now (set .entry)) (now (work .entry)) ⌝ }
+    ensures { λ r. ⌜ flip-left r (now (file .exit)) (now (work .exit))
+        ≡ flip-call variants-to-a-block (now (file .entry)) (now (set .entry)) (now (work .entry)) ⌝ }
 {
     let opened = open(&file[..], work.len());
     match opened {

@@ -6,12 +6,13 @@ ghost use Rattle.call_open.specs.Open.{Opening, OpeningAt};
 use format::FileVariant;
 use format::HeaderReply;
 use format::Refusal;
+use format::refusal_at;
 
 // 01, Replies: 10, 11 and 21, which "depend on the call's other arguments", have place 0.
 pub fn call_refusal(number: u8) -> Refusal
     ensures { λ r. ⌜ r ≡ refusal number 0 ⌝ }
 {
-    Refusal { number, place: 0 }
+    refusal_at(number, 0)
 }
 
 // The shorter of two lent buffers.

@@ -4,3 +4,4 @@ pub mod OpenRowLaws
 pub mod ReadLaws
 pub mod LookupLaws
 pub mod ViewLaws
+pub mod Unique

@@ -3,7 +3,7 @@ ghost use mathlib.Core.Path.{_≡_};
 ghost use Prim.Native.Nat.{_≤_};
 ghost use lib.ListN.{length};
 ghost use Rattle.format.specs.Limits.{variants-to-a-block};
-ghost use Rattle.format.specs.Reply.{check-left, check-call, read-left, read-call, lookup-left, lookup-call, view-left, view-call};
+ghost use Rattle.format.specs.Reply.{check-left, check-call, read-left, read-call, lookup-left, lookup-call, view-left, part-of-file, view-call};
 ghost use Rattle.call_read.specs.OpenRow.{OpeningRow};
 use base_rows::clear;
 use base_rows::copy;
@@ -57,7 +57,8 @@ fn open_row(file: &[u8], variant: FileVariant, lent: usize, work: &mut [u8]) -> 
 
 // 01: "A read changes the output's first N bytes and no others." It reads in the work area, so that a refusal finds the output untouched.
 pub fn read(file: &[u8], variant: FileVariant, output: &mut [u8], work: &mut [u8]) -> Reply
-    ensures { λ r. ⌜ read-left r (now (output .exit)) (now (work .exit)) ≡ read-call variants-to-a-block (now (file .entry)) variant (now (output .entry)) (now (work .entry)) ⌝ }
+    ensures { λ r. ⌜ read-left r (now (output .exit)) (now (work .exit))
+        ≡ read-call variants-to-a-block (now (file .entry)) variant (now (output .entry)) (now (work .entry)) ⌝ }
 {
     let lent = shorter(output.len(), work.len());
     let opened = open_row(file, variant, lent, work);
@@ -105,7 +106,8 @@ pub fn view<'a>(
     refusal: &mut u8,
     place: &mut usize,
 ) -> &'a [u8]
-    ensures { λ r. ⌜ view-left (now (refusal .exit)) (now (place .exit)) (now r) ≡ view-call variants-to-a-block (now (file .entry)) variant ⌝ }
+    ensures { λ r. ⌜ view-left (now (refusal .exit)) (now (place .exit)) (now r) (r .ptr)
+        ≡ part-of-file (file .entry .ptr) (view-call variants-to-a-block (now (file .entry)) variant) ⌝ }
 {
     let opened = open_at(file, variant, MOST_SAMPLES);
     match opened {

@@ -1,19 +1,41 @@
--- 01, How far each contract reaches: "Prove that two replies allowed by it are equal".
+-- Of each call: two replies that the contract allows are equal (format, proofs/Unique).
 -- Assumes nothing.
-use mathlib.Core.Path.{_≡_, sym, ap, _∙_}
-use mathlib.Core.List.{List}
-use Prim.Native.Nat.{ℕ}
-use Rattle.call_rows.specs.declared.Rows.{Rows}
+use mathlib.Core.Path.{_≡_, sym, ap, ap₂, _∙_}
+use contract.Lifetimes.{Lfts}
+use borrow.Fn.World.{ArgsD}
+use denote.Ref.{now}
+use denote.Triple.Clauses.{AtExit}
+use Rattle.format.specs.Reply.{Read}
+use Rattle.format.proofs.Unique.{same-read}
 use Rattle.call_rows.specs.declared.RowsReply.{RowsReply}
+use Rattle.call_rows.specs.declared.RowsReply.the-variants.{Started, Refused}
 use Rattle.call_rows.specs.declared.RowStep.{RowStep}
-use Rattle.call_rows.specs.Calls.{start-rows-call, Left, row-left, next-row-call}
+use Rattle.call_rows.specs.Calls.{rows-answer, Left, answered, row-left}
+use Rattle.call_rows.proofs.start_rows as start
+use Rattle.call_rows.proofs.start_rows.Reads as start-contract
+use Rattle.call_rows.proofs.next_row as next
+use Rattle.call_rows.proofs.next_row.Reads as next-contract
 
-pub start-rows-unique : (file work : List ℕ) (r s : RowsReply) → r ≡ start-rows-call file work → s ≡ start-rows-call file work → r ≡ s
-start-rows-unique file work r s p q = p ∙ sym q
+same-start : (r s : RowsReply) → rows-answer r ≡ rows-answer s → r ≡ s
+same-start (Started rows) (Started other) e = cc
+same-start (Started rows) (Refused why) e = cc
+same-start (Refused why) (Started rows) e = cc
+same-start (Refused why) (Refused other) e = cc
 
-pub next-row-unique : (rows : Rows) (file output work : List ℕ) (r s : RowStep) (output₁ output₂ work₁ work₂ : List ℕ)
-    → row-left r output₁ work₁ ≡ next-row-call rows file output work → row-left s output₂ work₂ ≡ next-row-call rows file output work
-    → (r ≡ s) × (output₁ ≡ output₂) × (work₁ ≡ work₂)
-next-row-unique rows file output work r s output₁ output₂ work₁ work₂ p q =
-    let e : row-left r output₁ work₁ ≡ row-left s output₂ work₂ = p ∙ sym q in
-    (ap (λ (z : Left). z .step) e, ap (λ (z : Left). z .output) e, ap (λ (z : Left). z .work) e)
+-- the answers
+pub start-rows-unique : (κs : Lfts 2) (lent : ArgsD start.signature κs) (r s : RowsReply) (left left₁ : AtExit start.ended κs)
+    → start-contract.Post κs lent r left → start-contract.Post κs lent s left₁ → r ≡ s
+start-rows-unique κs lent r s left left₁ p q = same-start r s (p ∙ sym q)
+
+-- all but the state, as a read leaves it
+abbrev as-of-read : Left → Read
+as-of-read left = record { verdict = left .verdict; output = left .output; work = left .work }
+
+-- the answers with the state, the outputs and the work areas
+pub next-row-unique : (κs : Lfts 3) (lent : ArgsD next.signature κs) (r s : RowStep) (left left₁ : AtExit next.ended κs)
+    → next-contract.Post κs lent r left → next-contract.Post κs lent s left₁
+    → (r ≡ s) × (now (left .1 .1 .0) ≡ now (left₁ .1 .1 .0)) × (now (left .1 .1 .1 .0) ≡ now (left₁ .1 .1 .1 .0))
+next-row-unique κs lent r s left left₁ p q =
+    let e : row-left r (now (left .1 .1 .0)) (now (left .1 .1 .1 .0)) ≡ row-left s (now (left₁ .1 .1 .0)) (now (left₁ .1 .1 .1 .0)) = p ∙ sym q in
+    let same = same-read (r .reply) (s .reply) _ _ _ _ (ap as-of-read e) in
+    (ap₂ answered (ap (λ (z : Left). z .rows) e) (same .0), same .1, same .2)

@@ -1,18 +1,19 @@
 // A way through a file that pays for one header check: a state that a start call gives, and a call for the next variant's categories. Between calls
 // the work area holds the categories of the last record that leans on none, which is the anchor of the next one that leans.
 ghost use mathlib.Core.Path.{_≡_};
-ghost use mathlib.Core.Bool.{true, false};
+ghost use mathlib.Core.Bool.{false};
 ghost use Prim.Native.Nat.{_≤_, _<_};
-ghost use Rattle.format.specs.Base.{refusal};
 ghost use Rattle.format.specs.Limits.{most-variants, variants-to-a-block};
-ghost use Rattle.format.specs.Body.{type-leans};
 ghost use Rattle.format.specs.Layout.{unblocked};
 ghost use Rattle.format.specs.Header.{type-place};
+ghost use Rattle.format.specs.Reply.{plain-answer};
 ghost use Rattle.head_blocks.specs.Parts.{fixed};
-ghost use Rattle.call_rows.specs.declared.NextRecord.the-variants as next-as;
-ghost use Rattle.call_rows.specs.Calls.{start-rows-call, next-record, found, past, RowReady, over-nothing, over-anchor, row-left, next-row-call};
+ghost use Rattle.call_rows.specs.Calls.{first-row, rows-answer, start-rows-call, state-checked, Standing, anchor-told, type-follows, record-checked};
+ghost use Rattle.call_rows.specs.Calls.{next-record, found, past, RowReady, over-nothing, over-anchor, row-left, next-row-in, next-row-call};
+use base_cursor::Cursor;
 use base_rows::copy;
 use base_variants::in_block;
+use call_open::call_refusal;
 use call_open::open;
 use format::Fields;
 use format::FileVariant;
@@ -21,14 +22,17 @@ use format::MOST_SAMPLES;
 use format::MOST_VARIANTS;
 use format::Refusal;
 use format::Reply;
+use format::refusal_at;
 use head_blocks::blocks_of;
 use head_blocks::first_record;
+use head_check::from_1_to;
 use head_columns::type_place;
 use head_places::Place;
 use head_records::size_of;
 use head_records::type_of;
 use head_types::type_allowed;
 use head_types::type_leans;
+use read_check::check_body;
 use read_record::read_body;
 
 // The next variant, where its record starts, and how the last record that leans on none was refused: number 0 at place 0 if it was accepted.
@@ -51,39 +55,84 @@ pub struct RowStep {
     pub reply: Reply,
 }
 
-// Demand 1: "A refusal has a number and a place."
-fn refusal(number: u8, place: usize) -> Refusal
-    ensures { λ r. ⌜ r ≡ refusal number place ⌝ }
+// Before the first variant of a file with these fields.
+pub fn first_row(fields: Fields) -> Rows
+    requires { ⌜ fields .variants ≤ most-variants ⌝ }
+    ensures { λ r. ⌜ r ≡ first-row fields ⌝ }
 {
-    Refusal { number, place }
+    Rows {
+        fields,
+        variant: FileVariant(0),
+        start: first_record(fields),
+        refusal: refusal_at(0, 0),
+    }
 }
 
 // The header check, which is made once. 10: the work area needs a byte for each sample.
 pub fn start_rows(file: &[u8], work: &[u8]) -> RowsReply
-    ensures { λ r. ⌜ r ≡ start-rows-call (now (file .entry)) (now (work .entry)) ⌝ }
+    ensures { λ r. ⌜ rows-answer r ≡ start-rows-call (now (file .entry)) (now (work .entry)) ⌝ }
 {
     let found = open(file, work.len());
     match found {
         HeaderReply::Refused(why) => RowsReply::Refused(why),
-        HeaderReply::Accepted(fields) => RowsReply::Started(Rows {
-            fields,
-            variant: FileVariant(0),
-            start: first_record(fields),
-            refusal: refusal(0, 0),
-        }),
+        HeaderReply::Accepted(fields) => RowsReply::Started(first_row(fields)),
     }
+}
+
+// 4, 10 and 11, by the state and the sizes of output and work area.
+fn state_checked(rows: Rows, output: usize, work: usize) -> Reply
+    ensures { λ r. ⌜ plain-answer r ≡ state-checked rows output work ⌝ }
+{
+    let f = rows.fields;
+    if !from_1_to(MOST_VARIANTS, f.variants) {
+        return Reply::Refused(refusal_at(4, 3));
+    }
+    if !from_1_to(MOST_SAMPLES, f.samples) {
+        return Reply::Refused(refusal_at(4, 7));
+    }
+    if output < f.samples {
+        return Reply::Refused(call_refusal(10));
+    }
+    if work < f.samples {
+        return Reply::Refused(call_refusal(10));
+    }
+    if f.variants <= rows.variant.0 {
+        return Reply::Refused(call_refusal(11));
+    }
+    Reply::Accepted
+}
+
+// Whether a state tells how its anchor was read: accepted, 0, or refused as a record is, 12 to 18. One that no start gave may tell anything.
+fn anchor_told(why: Refusal) -> bool
+    ensures { λ r. ⌜ r ≡ anchor-told why ⌝ }
+{
+    if why.number == 0 {
+        return true;
+    }
+    if why.number < 12 {
+        return false;
+    }
+    why.number <= 18
+}
+
+// Whether a record of this type may come next: no record leans where no anchor is told of.
+fn type_follows(rows: Rows, record_type: u8) -> bool
+    ensures { λ r. ⌜ r ≡ type-follows rows record_type ⌝ }
+{
+    let allowed = type_allowed(in_block(rows.variant), record_type);
+    if !type_leans(record_type) {
+        return allowed;
+    }
+    if !anchor_told(rows.refusal) {
+        return false;
+    }
+    allowed
 }
 
 // Where the next record stands, or why none is read.
 enum NextRecord {
     At(Place),
     Refused(Refusal),
-}
-
-fn none(number: u8, place: usize) -> NextRecord
-    ensures { λ r. ⌜ r ≡ next-as.Refused (refusal number place) ⌝ }
-{
-    NextRecord::Refused(refusal(number, place))
 }
 
 // 01, Replies: the place of refusal 8, the "byte holding it".
@@ -94,44 +143,41 @@ fn place_of_type(f: Fields, v: FileVariant) -> usize
     type_place(blocks_of(f), v)
 }
 
-// The next record, in the order of the refusals: 4, 10 and 11 by the state and the buffers' sizes, 8 and 9 by the file.
-fn next_record(rows: Rows, file: &[u8], output: usize, work: usize) -> NextRecord
-    ensures { λ r. ⌜ found r ≡ next-record rows (now (file .entry)) output work ⌝ }
+// 8 and 9, by the index and the length of the data.
+fn record_checked(rows: Rows, index: &[u8], held: &[u8]) -> NextRecord
+    requires { ⌜ Standing rows ⌝ }
+    ensures { λ r. ⌜ found r ≡ record-checked rows (now (index .entry)) (now (held .entry)) ⌝ }
 {
     let f = rows.fields;
     let v = rows.variant;
     let start = rows.start;
-    if MOST_VARIANTS < f.variants {
-        return none(4, 3);
+    let record_type = type_of(index, f, v);
+    if !type_follows(rows, record_type) {
+        return NextRecord::Refused(refusal_at(8, place_of_type(f, v)));
     }
-    if MOST_SAMPLES < f.samples {
-        return none(4, 7);
+    let size = size_of(index, f, v);
+    if held.len() < start {
+        return NextRecord::Refused(refusal_at(9, held.len()));
     }
-    if output < f.samples {
-        return none(10, 0);
-    }
-    if work < f.samples {
-        return none(10, 0);
-    }
-    if f.variants <= v.0 {
-        return none(11, 0);
-    }
-    let record_type = type_of(file, f, v);
-    if !type_allowed(in_block(v), record_type) {
-        return none(8, place_of_type(f, v));
-    }
-    let size = size_of(file, f, v);
-    if file.len() < start {
-        return none(9, file.len());
-    }
-    if file.len() - start < size {
-        return none(9, file.len());
+    if held.len() - start < size {
+        return NextRecord::Refused(refusal_at(9, held.len()));
     }
     NextRecord::At(Place {
         start,
         end: start + size,
         record_type,
     })
+}
+
+// The next record, in the order of the refusals: first those by the state and the buffers' sizes, then those by the index and the data.
+fn next_record(rows: Rows, index: &[u8], held: &[u8], output: usize, work: usize) -> NextRecord
+    ensures { λ r. ⌜ found r ≡ next-record rows (now (index .entry)) (now (held .entry)) output work ⌝ }
+{
+    let checked = state_checked(rows, output, work);
+    match checked {
+        Reply::Refused(why) => NextRecord::Refused(why),
+        Reply::Accepted => record_checked(rows, index, held),
+    }
 }
 
 // Past a record that ends at a place.
@@ -149,13 +195,13 @@ fn past(rows: Rows, end: usize, refusal: Refusal) -> Rows
 }
 
 // A record that leans on none is read in the work area, where its categories stay for those that lean on it.
-fn step_alone(rows: Rows, file: &[u8], p: Place, output: &mut [u8], work: &mut [u8]) -> RowStep
-    requires { ⌜ RowReady rows (now file) p (now output) (now work) ⌝ }
-    ensures { λ r. ⌜ row-left r (now (output .exit)) (now (work .exit)) ≡ over-nothing rows (now (file .entry)) p (now (output .entry)) (now (work .entry)) ⌝ }
+fn step_alone(rows: Rows, held: &[u8], p: Place, output: &mut [u8], work: &mut [u8]) -> RowStep
+    requires { ⌜ RowReady rows (now held) p (now output) (now work) ⌝ }
+    ensures { λ r. ⌜ row-left r (now (output .exit)) (now (work .exit)) ≡ over-nothing rows (now (held .entry)) p (now (output .entry)) (now (work .entry)) ⌝ }
 {
     let end = p.end;
     let n = rows.fields.samples;
-    let got = read_body(&file[..end], p.start, n, p.record_type, false, work);
+    let got = read_body(&held[..end], Cursor { at: p.start }, n, p.record_type, work);
     match got {
         Reply::Refused(why) => RowStep {
             rows: past(rows, end, why),
@@ -164,7 +210,7 @@ fn step_alone(rows: Rows, file: &[u8], p: Place, output: &mut [u8], work: &mut [
         Reply::Accepted => {
             copy(work, n, output);
             RowStep {
-                rows: past(rows, end, refusal(0, 0)),
+                rows: past(rows, end, refusal_at(0, 0)),
                 reply: Reply::Accepted,
             }
         }
@@ -172,9 +218,9 @@ fn step_alone(rows: Rows, file: &[u8], p: Place, output: &mut [u8], work: &mut [
 }
 
 // One that leans is checked over the work area, which stays, and then read in the output over a copy of it: a refusal finds the output untouched.
-fn step_leaning(rows: Rows, file: &[u8], p: Place, output: &mut [u8], work: &mut [u8]) -> RowStep
-    requires { ⌜ RowReady rows (now file) p (now output) (now work) × (type-leans (p .record_type) ≡ true) ⌝ }
-    ensures { λ r. ⌜ row-left r (now (output .exit)) (now (work .exit)) ≡ over-anchor rows (now (file .entry)) p (now (output .entry)) (now (work .entry)) ⌝ }
+fn step_leaning(rows: Rows, held: &[u8], p: Place, output: &mut [u8], work: &mut [u8]) -> RowStep
+    requires { ⌜ RowReady rows (now held) p (now output) (now work) ⌝ }
+    ensures { λ r. ⌜ row-left r (now (output .exit)) (now (work .exit)) ≡ over-anchor rows (now (held .entry)) p (now (output .entry)) (now (work .entry)) ⌝ }
 {
     let end = p.end;
     let n = rows.fields.samples;
@@ -186,7 +232,8 @@ fn step_leaning(rows: Rows, file: &[u8], p: Place, output: &mut [u8], work: &mut
             reply: Reply::Refused(anchors),
         };
     }
-    let got = read_body(&file[..end], p.start, n, p.record_type, true, work);
+    let here = Cursor { at: p.start };
+    let got = check_body(&held[..end], here, n, p.record_type, &work[..]);
     match got {
         Reply::Refused(why) => RowStep {
             rows: next,
@@ -194,7 +241,7 @@ fn step_leaning(rows: Rows, file: &[u8], p: Place, output: &mut [u8], work: &mut
         },
         Reply::Accepted => {
             copy(work, n, output);
-            read_body(&file[..end], p.start, n, p.record_type, false, output);
+            read_body(&held[..end], here, n, p.record_type, output);
             RowStep {
                 rows: next,
                 reply: Reply::Accepted,
@@ -203,11 +250,12 @@ fn step_leaning(rows: Rows, file: &[u8], p: Place, output: &mut [u8], work: &mut
     }
 }
 
-// The next variant's categories in the output, as a read gives them.
-pub fn next_row(rows: Rows, file: &[u8], output: &mut [u8], work: &mut [u8]) -> RowStep
-    ensures { λ r. ⌜ row-left r (now (output .exit)) (now (work .exit)) ≡ next-row-call rows (now (file .entry)) (now (output .entry)) (now (work .entry)) ⌝ }
+// The next variant's categories in the output, by an index and the data that it speaks of.
+fn next_row_in(rows: Rows, index: &[u8], held: &[u8], output: &mut [u8], work: &mut [u8]) -> RowStep
+    ensures { λ r. ⌜ row-left r (now (output .exit)) (now (work .exit))
+        ≡ next-row-in rows (now (index .entry)) (now (held .entry)) (now (output .entry)) (now (work .entry)) ⌝ }
 {
-    let sought = next_record(rows, file, output.len(), work.len());
+    let sought = next_record(rows, index, held, output.len(), work.len());
     match sought {
         NextRecord::Refused(why) => RowStep {
             rows,
@@ -215,9 +263,16 @@ pub fn next_row(rows: Rows, file: &[u8], output: &mut [u8], work: &mut [u8]) -> 
         },
         NextRecord::At(p) => {
             if type_leans(p.record_type) {
-                return step_leaning(rows, file, p, output, work);
+                return step_leaning(rows, held, p, output, work);
             }
-            step_alone(rows, file, p, output, work)
+            step_alone(rows, held, p, output, work)
         }
     }
+}
+
+// The same of a file in one piece: as a read gives them.
+pub fn next_row(rows: Rows, file: &[u8], output: &mut [u8], work: &mut [u8]) -> RowStep
+    ensures { λ r. ⌜ row-left r (now (output .exit)) (now (work .exit)) ≡ next-row-call rows (now (file .entry)) (now (output .entry)) (now (work .entry)) ⌝ }
+{
+    next_row_in(rows, file, file, output, work)
 }

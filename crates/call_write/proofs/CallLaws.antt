@@ -199,10 +199,11 @@ module _ (categories : List ℕ) (number code : ℕ) (anchor output : List ℕ) 
       bytes-then : write-record categories number code anchor (length output) ≡ need (leb (length bytes) (length output)) 10 0 (ok bytes [])
       bytes-then = write-is categories number code anchor (length output) ∙ simp (accepted categories number code anchor r a e q .1)
 
-      pub call-short : length output < size .bytes → write-left (write.Refused (refusal 10 0)) output ≡ write-call categories number code anchor output
-      call-short h =
+      pub call-short : length output < size .bytes → {why : Refusal} → why ≡ refusal 10 0
+          → write-left (write.Refused why) output ≡ write-call categories number code anchor output
+      call-short h w =
           let t : leb (length bytes) (length output) ≡ false = lt-leb (length bytes) (length output) (omega (arith, s .bytes-are)) in
-          refused-is (refusal 10 0) (bytes-then ∙ simp t)
+          rw w (refused-is (refusal 10 0) (bytes-then ∙ simp t))
 
       module _ (h : size .bytes ≤ length output) where
         pub call-room : length (asked-bytes a anchor categories) ≤ length output

@@ -11,6 +11,7 @@ use lib.ListN.{length, getD, drop, drop-of-length-le}
 use lib.Seq.{drop-cons}
 use lib.Dec.{eqb, ltb, leb}
 use borrow.Author.Tests.{lt-ltb, le-ltb, le-leb, lt-leb, eq-eqb, ne-eqb, not-true, not-false}
+use Rattle.format.specs.declared.Refusal.{Refusal}
 use Rattle.format.specs.Base.{pick, Out, ok, refusal, refuse, need}
 use Rattle.format.specs.Limits.{most-samples}
 use Rattle.format.specs.Track.{leans}
@@ -86,20 +87,20 @@ above-passes i (c ∷ categories) next h = go (ltb c 4) h (above-passes (suc i) 
     go false h later = absurd (omega arith)
 
 module _ (a : Asked) (categories anchor : List ℕ) (i : ℕ) (f : i ≡ first-above categories) where
-  pub refused-category : i < length categories → checked.Refused (refusal 20 i) ≡ as-checked (check-categories a categories anchor)
-  refused-category h =
+  pub refused-category : i < length categories → {why : Refusal} → why ≡ refusal 20 i → checked.Refused why ≡ as-checked (check-categories a categories anchor)
+  refused-category h w =
       let n : check-categories a categories anchor ≡ refuse 20 (0 + first-above categories)
       = above-stops 0 categories (need-categories 0 anchor (ok a [])) (omega arith) in
-      simp n (ap (λ (p : ℕ). checked.Refused (refusal 20 p)) (f ∙ sym (zero-add (first-above categories))))
+      simp (w, n) (ap (λ (p : ℕ). checked.Refused (refusal 20 p)) (f ∙ sym (zero-add (first-above categories))))
 
   module _ (h : length categories ≤ i) (j : ℕ) (g : j ≡ first-above anchor) where
     passed : check-categories a categories anchor ≡ need-categories 0 anchor (ok a [])
     passed = above-passes 0 categories (need-categories 0 anchor (ok a [])) (omega arith)
 
-    pub refused-lent : j < length anchor → checked.Refused (refusal 20 j) ≡ as-checked (check-categories a categories anchor)
-    refused-lent k =
+    pub refused-lent : j < length anchor → {why : Refusal} → why ≡ refusal 20 j → checked.Refused why ≡ as-checked (check-categories a categories anchor)
+    refused-lent k w =
         let n : check-categories a categories anchor ≡ refuse 20 (0 + first-above anchor) = passed ∙ above-stops 0 anchor (ok a []) (omega arith) in
-        simp n (ap (λ (p : ℕ). checked.Refused (refusal 20 p)) (g ∙ sym (zero-add (first-above anchor))))
+        simp (w, n) (ap (λ (p : ℕ). checked.Refused (refusal 20 p)) (g ∙ sym (zero-add (first-above anchor))))
 
     pub all-categories : length anchor ≤ j → checked.Allowed a ≡ as-checked (check-categories a categories anchor)
     all-categories k =
@@ -111,16 +112,16 @@ pub ruleset category-laws = (refused-category, refused-lent, all-categories)
 -- ---- one check after another
 
 module _ (categories : List ℕ) (number code : ℕ) (anchor : List ℕ) where
-  pub refused-none : length categories ≡ 0 → checked.Refused (refusal 4 0) ≡ check-record categories number code anchor
+  pub refused-none : length categories ≡ 0 → {why : Refusal} → why ≡ refusal 4 0 → checked.Refused why ≡ check-record categories number code anchor
   unfolding check-out
-  refused-none z = let h : leb 1 (length categories) ≡ false = lt-leb 1 (length categories) (omega arith) in simp h
+  refused-none z w = let h : leb 1 (length categories) ≡ false = lt-leb 1 (length categories) (omega arith) in simp (w, h)
 
-  pub refused-many : most-samples < length categories → checked.Refused (refusal 4 0) ≡ check-record categories number code anchor
+  pub refused-many : most-samples < length categories → {why : Refusal} → why ≡ refusal 4 0 → checked.Refused why ≡ check-record categories number code anchor
   unfolding check-out
-  refused-many m =
+  refused-many m w =
       let h : leb 1 (length categories) ≡ true = le-leb 1 (length categories) (omega arith) in
       let k : leb (length categories) most-samples ≡ false = lt-leb (length categories) most-samples m in
-      simp (h, k)
+      simp (w, h, k)
 
   module _ (some : length categories ≡ 0 → ⊥) (few : length categories ≤ most-samples) where
     sized : from-1-to most-samples (length categories) ≡ true
@@ -130,21 +131,22 @@ module _ (categories : List ℕ) (number code : ℕ) (anchor : List ℕ) where
         simp (h, k)
 
     module _ (a : Asked) (e : a ≡ asked-for number code) (may : Bool) (m : may ≡ is-allowed a) where
-      pub refused-kind : not may ≡ true → checked.Refused (refusal 19 0) ≡ check-record categories number code anchor
+      pub refused-kind : not may ≡ true → {why : Refusal} → why ≡ refusal 19 0 → checked.Refused why ≡ check-record categories number code anchor
       unfolding check-out
-      refused-kind q =
+      refused-kind q w =
           let n : allowed (asked-for number code) ≡ refuse 19 0 = rw (← e) (allowed-no a (sym m ∙ not-true may q)) in
-          simp (sized, n)
+          simp (w, sized, n)
 
       module _ (q : not may ≡ false) (size : ℕ) (s : size ≡ pick (leans number) (length categories) 0) where
         yes : allowed (asked-for number code) ≡ ok a []
         yes = rw (← e) (allowed-yes a (sym m ∙ not-false may q))
 
-        pub refused-anchor : (length anchor ≡ size → ⊥) → checked.Refused (refusal 10 0) ≡ check-record categories number code anchor
+        pub refused-anchor : (length anchor ≡ size → ⊥) → {why : Refusal} → why ≡ refusal 10 0
+            → checked.Refused why ≡ check-record categories number code anchor
         unfolding check-out
-        refused-anchor d =
+        refused-anchor d w =
             let n : eqb (length anchor) (pick (leans number) (length categories) 0) ≡ false = rw (← s) (ne-eqb (length anchor) size d) in
-            simp (sized, yes, n)
+            simp (w, sized, yes, n)
 
         module _ (l : length anchor ≡ size) where
           there : eqb (length anchor) (pick (leans number) (length categories) 0) ≡ true

@@ -5,3 +5,4 @@ pub mod CallLaws
 pub mod Allowed
 pub mod Promises
 pub mod LargestLaws
+pub mod Unique

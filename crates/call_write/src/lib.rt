@@ -1,10 +1,12 @@
 // The writer of one main-track record, in any of the seven kinds.
 use base_pairs::pair_of;
+use base_rows::larger;
 use format::MOST_SAMPLES;
 use format::Pair;
 use format::PairFound;
 use format::Refusal;
 use format::WriteReply;
+use format::refusal_at;
 use write_bytes::Array;
 use write_bytes::array_size;
 use write_bytes::put_array;
@@ -71,7 +73,7 @@ fn asked_for(kind: usize, code: usize) -> Asked
     }
 }
 
-// 19
+// 01, Replies: whether 19, "kind or pair code not allowed", does not refuse what is asked for.
 fn is_allowed(asked: Asked) -> bool
     ensures { λ r. ⌜ r ≡ is-allowed asked ⌝ }
 {
@@ -94,12 +96,6 @@ fn anchor_size(kind: usize, samples: usize) -> usize
         return samples;
     }
     0
-}
-
-fn larger(a: u8, b: u8) -> u8
-    ensures { λ r. ⌜ (a ≤ r) × (b ≤ r) ⌝ }
-{
-    if a < b { b } else { a }
 }
 
 // A bound of all categories, the largest: one flat loop with no exit, as categories above 3 are rare.
@@ -138,17 +134,11 @@ fn check_categories(asked: Asked, categories: &[u8], anchor: &[u8]) -> Checked
 {
     let i = first_above_3(categories);
     if i < categories.len() {
-        return Checked::Refused(Refusal {
-            number: 20,
-            place: i,
-        });
+        return Checked::Refused(refusal_at(20, i));
     }
     let j = first_above_3(anchor);
     if j < anchor.len() {
-        return Checked::Refused(Refusal {
-            number: 20,
-            place: j,
-        });
+        return Checked::Refused(refusal_at(20, j));
     }
     Checked::Allowed(asked)
 }
@@ -160,29 +150,17 @@ fn check_record(categories: &[u8], kind: usize, code: usize, anchor: &[u8]) -> C
 {
     let samples = categories.len();
     if samples == 0 {
-        return Checked::Refused(Refusal {
-            number: 4,
-            place: 0,
-        });
+        return Checked::Refused(refusal_at(4, 0));
     }
     if samples > MOST_SAMPLES {
-        return Checked::Refused(Refusal {
-            number: 4,
-            place: 0,
-        });
+        return Checked::Refused(refusal_at(4, 0));
     }
     let asked = asked_for(kind, code);
     if !is_allowed(asked) {
-        return Checked::Refused(Refusal {
-            number: 19,
-            place: 0,
-        });
+        return Checked::Refused(refusal_at(19, 0));
     }
     if anchor.len() != anchor_size(kind, samples) {
-        return Checked::Refused(Refusal {
-            number: 10,
-            place: 0,
-        });
+        return Checked::Refused(refusal_at(10, 0));
     }
     check_categories(asked, categories, anchor)
 }
@@ -269,10 +247,7 @@ pub fn write_record(
         Checked::Allowed(asked) => {
             let size = record_size(asked, categories, anchor);
             if size.bytes > output.len() {
-                return WriteReply::Refused(Refusal {
-                    number: 10,
-                    place: 0,
-                });
+                return WriteReply::Refused(refusal_at(10, 0));
             }
             let entries = size.count;
             let count = put_record(asked, categories, anchor, entries, output);

@@ -27,7 +27,7 @@ use Rattle.base_list.proofs.ShapeLaws.{width-few}
 use Rattle.base_cursor.specs.declared.Cursor.{Cursor}
 use Rattle.base_cursor.specs.declared.VarintStep.{VarintStep}
 use Rattle.base_cursor.specs.declared.VarintStep.the-variants.{Value, Refused}
-use Rattle.base_cursor.specs.Steps.{varint-step, varint-at}
+use Rattle.base_cursor.specs.Steps.{cursor-at, varint-step, varint-at}
 use Rattle.flip_bytes.specs.Changed.{values-exchanged, bits-complemented}
 use Rattle.flip_body.specs.Edits.{values-flipped, before-values, count-read, list-flipped, list-flipped-at}
 use Rattle.flip_body.specs.Edits.{bits-turned, list-place, pair-flipped, kind-flipped, body-flipped, flipped-in}
@@ -79,13 +79,13 @@ module _ (N : ℕ) (s : List ℕ) where
       → count-read N s m ≡ pick (leb L N) (values-flipped (c .at + before-values N L) L s) s
   counted (ok n left) L c e =
       let p : n ≡ L = cc in
-      let q : record { at = length s - length left } ≡ c = cc in
+      let q : cursor-at (length s - length left) ≡ c = cc in
       ap₂ (λ (j : ℕ) (d : Cursor). pick (leb j N) (values-flipped (d .at + before-values N j) j s) s) p q
   counted (refused why) L c e = absurd (let z : _≡_ {A = ℕ} 0 1 = cc in omega arith)
 
   within : (m : Out ℕ) (L : ℕ) (c : Cursor) → varint-step (length s) m ≡ Value L c → c .at ≤ length s
   within (ok n left) L c e =
-      let q : record { at = length s - length left } ≡ c = cc in
+      let q : cursor-at (length s - length left) ≡ c = cc in
       let k : length s - length left ≡ c .at = ap (λ (d : Cursor). d .at) q in
       omega arith
   within (refused why) L c e = absurd (let z : _≡_ {A = ℕ} 0 1 = cc in omega arith)
@@ -114,11 +114,12 @@ module _ (N : ℕ) (s : List ℕ) where
     module _ (L : ℕ) (c : Cursor) (e : got ≡ Value L c) (h : L ≤ N) (width few sizes : ℕ)
         (ew : width ≡ number-width N) (eg : few ≡ groups L) (ez : sizes ≡ few - 1) where
       -- a slice takes less than 2^63 bytes
-      pub place-fits : N ≤ most-samples → length s * 1 < 2 ^ 63 → Fits w64 (c .at + (width * few + sizes))
+      pub place-fits : N ≤ most-samples → length s * 1 < 2 ^ 63 → c .at + (width * few + sizes) < 2 ^ 64
       place-fits n k = omega (arith, before-small N L (omega arith), list-within L c e, before-is N L width few sizes ew eg ez)
 
-      pub list-found : (later : List ℕ) → later ≡ values-flipped (c .at + (width * few + sizes)) L s → later ≡ list-flipped N s
-      list-found later w = rw (w, before-is N L width few sizes ew eg ez, list-counted L c e, le-leb L N h) refl
+      pub list-found : (values : Cursor) → values ≡ cursor-at (c .at + (width * few + sizes)) → (later : List ℕ) → later ≡ values-flipped (values .at) L s
+          → later ≡ list-flipped N s
+      list-found values v later w = rw (w, v, before-is N L width few sizes ew eg ez, list-counted L c e, le-leb L N h) refl
 
 -- the part from `at` to the end, given back
 pub list-part : (at N : ℕ) (s later : List ℕ) → later ≡ list-flipped N (take (length s - at) (drop at s))

@@ -14,11 +14,12 @@ use format::PairFound;
 use head_types::kind_of;
 use head_types::type_leans;
 
-// The values of a list, or of a whole record of kind 0, from p on, if they fit.
-fn flip_values(s: &mut [u8], p: usize, count: usize)
+// The values of a list, or of a whole record of kind 0, from `c` on, if they fit.
+fn flip_values(s: &mut [u8], c: Cursor, count: usize)
     requires { ⌜ count ≤ most-samples ⌝ }
-    ensures { λ r. ⌜ now (s .exit) ≡ values-flipped p count (now (s .entry)) ⌝ }
+    ensures { λ r. ⌜ now (s .exit) ≡ values-flipped (c .at) count (now (s .entry)) ⌝ }
 {
+    let p = c.at;
     if p <= s.len() {
         if (count + 3) / 4 <= s.len() - p {
             flip_bytes::exchange_values(s, p, count);
@@ -46,8 +47,7 @@ fn flip_list(s: &mut [u8], n: usize)
                 let groups = base_list::groups(count);
                 let heads = number_width(n) * groups;
                 let sizes = size_bytes(groups);
-                let at = next.at;
-                flip_values(s, at + (heads + sizes), count);
+                flip_values(s, next.past(heads + sizes), count);
             }
         }
     }
@@ -95,7 +95,7 @@ fn flip_kind(s: &mut [u8], n: usize, kind: u8)
     ensures { λ r. ⌜ now (s .exit) ≡ kind-flipped n kind (now (s .entry)) ⌝ }
 {
     match kind {
-        0 => flip_values(s, 0, n),
+        0 => flip_values(s, Cursor { at: 0 }, n),
         1 => flip_pair(s, n),
         _ => flip_list(s, n),
     }

@@ -23,7 +23,7 @@ use Rattle.format.specs.Body.{kind-of, type-leans, flip-kind, flip-type}
 use Rattle.format.specs.Variant.{in-block}
 use Rattle.format.specs.Layout.{Fixed, form-of}
 use Rattle.format.specs.Header.{type-place}
-use Rattle.format.specs.Reply.{set-bit}
+use Rattle.format.specs.Reply.{member}
 use Rattle.format.proofs.Rules.{split}
 use Rattle.format.proofs.PackedLaws.{limit-positive}
 use Rattle.format.proofs.FlipTypeLaws.{flip-type-small}
@@ -35,8 +35,8 @@ use Rattle.flip_file.specs.Passes.{digit-put, type-put, touched, type-fl
 
 -- ---- a variant's bit of the set
 
-pub member-is : (set : List ℕ) (v b : ℕ) → b ≡ getD set (v / 8) 0 → eqb (b / 2 ^ (v % 8) % 2) 1 ≡ set-bit set v
-member-is set v b e = ap (λ (y : ℕ). eqb (y / 2 ^ (v % 8) % 2) 1) e
+pub member-is : (set : List ℕ) (v : FileVariant) (b : ℕ) → b ≡ getD set (v .0 / 8) 0 → eqb (b / 2 ^ (v .0 % 8) % 2) 1 ≡ member set v
+member-is set v b e = ap (λ (y : ℕ). eqb (y / 2 ^ (v .0 % 8) % 2) 1) e
 
 -- ---- whether a record fits
 
@@ -94,8 +94,8 @@ read-small f bs v type e = rw e (mod-lt _ (limit-positive (form-of (fixed f) .ty
 
 -- ---- one type in its byte
 
-abbrev in-byte : Bits → ℕ → ℕ → ℕ → ℕ
-in-byte bits i x b = digit-put (limit bits) (i % suc (more bits)) x b
+abbrev in-byte : Bits → BlockVariant → ℕ → ℕ → ℕ
+in-byte bits i x b = digit-put (limit bits) (i .0 % suc (more bits)) x b
 
 module _ (half : Bool) (x : ℕ) (t : half ≡ true) (l : x < limit (pick half four eight)) where
   small : x < 16
@@ -110,15 +110,15 @@ module _ (half : Bool) (x : ℕ) (t : half ≡ true) (l : x < limit (pick half f
   pub high-fits : (byte : ℕ) → Fits w8 (x * 16 + byte % 16)
   high-fits byte = omega (arith, small)
 
-module _ (byte : ℕ) (half : Bool) (i x : ℕ) where
-  pub with-even : half ≡ true → i % 2 ≡ 0 → byte / 16 * 16 + x ≡ in-byte (pick half four eight) i x byte
+module _ (byte : ℕ) (half : Bool) (i : BlockVariant) (x : ℕ) where
+  pub with-even : half ≡ true → i .0 % 2 ≡ 0 → byte / 16 * 16 + x ≡ in-byte (pick half four eight) i x byte
   with-even t e = rw (t, e) refl
 
-  pub with-odd : half ≡ true → (i % 2 ≡ 0 → ⊥) → Fits w8 byte → x * 16 + byte % 16 ≡ in-byte (pick half four eight) i x byte
-  with-odd t e k = let z : i % 2 ≡ 1 = omega arith in rw (t, z) (omega arith)
+  pub with-odd : half ≡ true → (i .0 % 2 ≡ 0 → ⊥) → Fits w8 byte → x * 16 + byte % 16 ≡ in-byte (pick half four eight) i x byte
+  with-odd t e k = let z : i .0 % 2 ≡ 1 = omega arith in rw (t, z) (omega arith)
 
   pub with-whole : half ≡ false → Fits w8 byte → x ≡ in-byte (pick half four eight) i x byte
-  with-whole t k = let z : i % 1 ≡ 0 = omega arith in rw (t, z) (omega arith)
+  with-whole t k = let z : i .0 % 1 ≡ 0 = omega arith in rw (t, z) (omega arith)
 
 -- ---- one type in the file
 
@@ -128,7 +128,7 @@ module _ (f : Fields) (b : Blocks) (d : b ≡ blocks-of (fixed f)) (x : ℕ) whe
   room l = rw (bits-are b (fixed f) d) l
 
   module _ (bs : List ℕ) (v : FileVariant) (place : ℕ) (p : (g : Fixed) → b ≡ blocks-of g → place ≡ type-place variants-to-a-block g v) where
-    pub put-inside : (i : BlockVariant) → i ≡ in-block variants-to-a-block v → (y : ℕ) → y ≡ in-byte (pick (b .half) four eight) (i .0) x (getD bs place 0)
+    pub put-inside : (i : BlockVariant) → i ≡ in-block variants-to-a-block v → (y : ℕ) → y ≡ in-byte (pick (b .half) four eight) i x (getD bs place 0)
         → set bs place y ≡ type-put variants-to-a-block (fixed f) v x bs
     unfolding type-put
     put-inside i q y e = rw (e, q, bits-are b (fixed f) d, p (fixed f) d) refl

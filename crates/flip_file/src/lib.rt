@@ -18,6 +18,7 @@ ghost use Rattle.flip_file.specs.Accepted.{Accepted};
 use base_variants::in_block;
 use flip_body::flip_body;
 use flip_body::next_lent;
+use format::BlockVariant;
 use format::Fields;
 use format::FileVariant;
 use head_blocks::blocks_of;
@@ -116,12 +117,12 @@ fn is_touched(lent: bool, own: bool, record_type: u8) -> bool
 }
 
 // 01, The header: "its packed types (low nibble first)": the byte that holds type i of a block, with x for that type; `half`: types of 4 bits, else of 8.
-fn with_type(byte: u8, half: bool, i: usize, x: u8) -> u8
+fn with_type(byte: u8, half: bool, i: BlockVariant, x: u8) -> u8
     requires { ⌜ x < limit (pick half four eight) ⌝ }
-    ensures { λ r. ⌜ r ≡ digit-put (limit (pick half four eight)) (i % suc (more (pick half four eight))) x byte ⌝ }
+    ensures { λ r. ⌜ r ≡ digit-put (limit (pick half four eight)) (i .0 % suc (more (pick half four eight))) x byte ⌝ }
 {
     if half {
-        if i % 2 == 0 {
+        if i.0 % 2 == 0 {
             return byte / 16 * 16 + x;
         }
         return x * 16 + byte % 16;
@@ -138,7 +139,7 @@ fn put_type(file: &mut [u8], f: Fields, v: FileVariant, x: u8)
     let i = in_block(v);
     if place < file.len() {
         let byte = file[place];
-        file[place] = with_type(byte, b.half, i.0, x);
+        file[place] = with_type(byte, b.half, i, x);
     }
 }
 

@@ -10,7 +10,7 @@ use Rattle.format.specs.Limits.{most-samples}
 use Rattle.format.specs.Track.{leans, Track, track-kind, track-bytes, read-track}
 use Rattle.format.specs.Body.{kind-of, type-leans, Body, body-type, body-leans, body-bytes, BodyFits, ended, read-body}
 use Rattle.format.proofs.Rules.{Holds, by-bind}
-use Rattle.format.proofs.TrackLaws.{track-kind-small, leans-track, IsTrack, track-read-back, track-as-written, track-are-bytes}
+use Rattle.format.proofs.TrackLaws.{track-kind-small, leans-track, IsTrack, track-read-back, track-as-written}
 
 -- ---- its type
 
@@ -73,7 +73,3 @@ record-exactly end N anchor type bs body l y = (
       = ap₂ (read-track end N anchor) (sym (h .0)) (h .2 ∙ sym (append-nil (body-bytes N body))) ∙ track-read-back end N anchor (body .main) [] l (h .1) in
       simp q,
 )
-
--- a body that fits is written in bytes
-pub body-are-bytes : (N : ℕ) (anchor : List ℕ) (body : Body) → N ≤ most-samples → BodyFits N anchor body → Bytes (body-bytes N body)
-body-are-bytes N anchor body l f = track-are-bytes N anchor (body .main) l f

@@ -1,7 +1,7 @@
 -- Each refusal of a public call is a number of document 01's table that belongs to that call: no clause that stands for what cannot come is reached.
 -- Assumes nothing.
 use mathlib.Core.Path.{_≡_, refl, sym}
-use Prim.Native.Nat.{ℕ, zero, suc, _+_, _*_, _<_}
+use Prim.Native.Nat.{ℕ, zero, suc, _+_, _<_}
 use mathlib.Core.Bool.{Bool, true, false, not, _&&_}
 use mathlib.Core.List.{List, [], _∷_, _++_}
 use lib.ListN.{length, getD}
@@ -15,7 +15,7 @@ use Rattle.format.specs.Classes.{header-numbers, record-numbers, writer-
 use Rattle.format.specs.PairCode.{Coded, coded, not-coded, code-numbered}
 use Rattle.format.specs.Track.{Kind, array, paired, against-anchor, against-category, no-kind, kind, leans, track-bytes}
 use Rattle.format.specs.Body.{Body, body-categories, read-body, type-leans}
-use Rattle.format.specs.Variant.{file-variant, next-variant, block-of, in-block, anchor}
+use Rattle.format.specs.Variant.{file-variant, next-variant, in-block, anchor}
 use Rattle.format.specs.Layout.{from-1-to, first-record, Layout, fixed-of, record-start, TypesAllowed, LayoutObeys}
 use Rattle.format.specs.Header.{read-layout}
 use Rattle.format.specs.File.{next-anchor, read-records, read-all, type-of, read-over, read-variant, variant-leans}
@@ -26,7 +26,7 @@ use Rattle.format.proofs.Rules.{by-test}
 use Rattle.format.proofs.Refuses.{Refuses, Among, HeaderNumber, RecordNumber, every, class-holds, refuses-wider, refuses-need, refuses-map, refuses-bind}
 use Rattle.format.proofs.Refuses.{refuses-then}
 use Rattle.format.proofs.Refusals.{body-refusals, allowed-kind}
-use Rattle.format.proofs.AnchorLaws.{IsAnchor, anchor-is, types-allowed-at}
+use Rattle.format.proofs.AnchorLaws.{IsAnchor, anchor-is, type-allowed-in}
 use Rattle.format.proofs.HeaderLaws.{IsLayout, layout-as-written}
 use Rattle.format.proofs.HeaderRefusals.{header-refusals}
 use Rattle.format.proofs.FileLaws.{AllBytes, bodies-are-bytes, one-type-each}
@@ -61,7 +61,7 @@ module _ (K : ℕ) (l : Layout) (p : zero < K) (h : LayoutObeys K l) (y : AllByt
       let there : v .0 < length (l .types) = omega (arith, one-type-each K l h) in
       refuses-map RecordNumber _ (read-body (record-start K l (next-variant v)) (l .samples) lent (type-of l v) (getD (l .bodies) (v .0) []))
       (body-refusals (record-start K l (next-variant v)) (l .samples) lent (type-of l v) (getD (l .bodies) (v .0) [])
-      (allowed-kind (in-block K (file-variant (0 + v .0))) (type-of l v) (types-allowed-at K 0 (v .0) (l .types) (h .types) there))
+      (allowed-kind (in-block K v) (type-of l v) (type-allowed-in K (l .types) p (h .types) v there))
       (stored-bytes (v .0) (l .bodies) y))
 
   -- of one variant and its anchor
@@ -70,7 +70,7 @@ module _ (K : ℕ) (l : Layout) (p : zero < K) (h : LayoutObeys K l) (y : AllByt
   variant-refusals v m =
       by-test (Refuses RecordNumber) (variant-leans l v)
       (λ t.
-      let a : IsAnchor (l .types) (block-of K v * K) (v .0) (anchor K (l .types) v .0)
+      let a : IsAnchor K (l .types) v (anchor K (l .types) v)
       = anchor-is K (l .types) p (h .types) v (omega (arith, one-type-each K l h)) t in
       refuses-then RecordNumber (read-over K l [] (anchor K (l .types) v)) _ (over-refusals [] (anchor K (l .types) v) (omega (arith, a .before)))
       (λ lent left. over-refusals lent v m))

@@ -18,11 +18,6 @@ pub just-one-self : (a : Bool) → just-one a a ≡ false
 just-one-self true = refl
 just-one-self false = refl
 
--- what is in just one of itself and nothing is in it
-pub just-one-none : (a : Bool) → just-one a false ≡ a
-just-one-none true = refl
-just-one-none false = refl
-
 -- the order of the two makes no difference
 pub just-one-order : (a b : Bool) → just-one a b ≡ just-one b a
 just-one-order true true = refl

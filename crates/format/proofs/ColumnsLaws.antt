@@ -5,7 +5,7 @@ use Prim.Native.Nat.{ℕ, _+_, _-_}
 use mathlib.Core.Bool.{Bool, true, false}
 use mathlib.Core.List.{List, [], _∷_, _++_}
 use lib.ListN.{length, take, drop, length-append, length-drop, take-append-drop}
-use lib.Seq.{take-at, drop-at, take-nil, drop-nil, drop-drop, length-take-le}
+use lib.Seq.{take-at, drop-at, take-nil, drop-nil, length-take-le}
 use native.Mathlib.Omega.{arith}
 use Rattle.format.specs.Base.{pick}
 use Rattle.format.specs.Layout.{Form, flag-count, Columns, take-columns, drop-columns, join-columns, ColumnsFit}
@@ -114,7 +114,3 @@ columns-rest form n m c d h g =
       drop-at (c .lengths) (d .lengths) n (h .lengths-count),
       flags-rest form n m (c .flags) (d .flags) (h .flags-count) (g .flags-count),
     ) refl
-
--- columns dropped one after another
-pub columns-drop-drop : (m n : ℕ) (c : Columns) → drop-columns m (drop-columns n c) ≡ drop-columns (n + m) c
-columns-drop-drop m n c = rw (drop-drop m n (c .types), drop-drop m n (c .lengths), drop-drop m n (c .flags)) refl

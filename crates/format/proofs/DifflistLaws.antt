@@ -1,23 +1,23 @@
--- Difference lists: read back, as written, accepted exactly when they obey, and that what is written are bytes.
+-- Difference lists: read back, as written, accepted exactly when they obey.
 -- Assumes nothing.
 use mathlib.Core.Path.{_≡_, subst}
-use Prim.Native.Nat.{ℕ, zero, suc, _+_, _-_, _*_, _^_, _≤_, _<_, zero-le}
+use Prim.Native.Nat.{ℕ, _-_, _^_, _≤_, _<_, zero-le}
 use mathlib.Core.Logic.{_↔_}
-use mathlib.Core.List.{List, [], _∷_, _++_, append-assoc}
+use mathlib.Core.List.{List, _++_, append-assoc}
 use lib.ListN.{length}
-use lib.Dec.{leb, lit≤}
+use lib.Dec.{leb}
 use native.Mathlib.Omega.{arith}
 use borrow.Author.Tests.{le-leb}
 use Rattle.format.specs.Base.{Bytes, ok}
 use Rattle.format.specs.Varint.{varint-bytes, read-varint}
 use Rattle.format.specs.Numbers.{numbers-bytes, read-numbers, read-bytes}
 use Rattle.format.specs.Packed.{two, packed, read-packed}
-use Rattle.format.specs.Difflist.{Entry, Rule, Rising, groups, heads, sizes-after, size-bytes, values, steps, list-parts, list-bytes, read-first}
+use Rattle.format.specs.Difflist.{Entry, Rule, Rising, groups, heads, size-bytes, values, steps, list-parts, list-bytes, read-first}
 use Rattle.format.specs.Difflist.{read-parts, read-list}
-use Rattle.format.proofs.Rules.{Holds, by-need, by-bind, weaken, below-after, below-append}
-use Rattle.format.proofs.VarintLaws.{varint-read-back, varint-as-written, varint-are-bytes, varint-length, IsVarint}
-use Rattle.format.proofs.NumbersLaws.{numbers-read-back, numbers-as-written, numbers-are-bytes, AreNumbers, bytes-read-back, bytes-as-written, AreBytes}
-use Rattle.format.proofs.PackedLaws.{packed-read-back, packed-as-written, packed-are-bytes, ArePacked}
+use Rattle.format.proofs.Rules.{Holds, by-need, by-bind, weaken, below-after}
+use Rattle.format.proofs.VarintLaws.{varint-read-back, varint-as-written, IsVarint}
+use Rattle.format.proofs.NumbersLaws.{numbers-read-back, numbers-as-written, AreNumbers, bytes-read-back, bytes-as-written, AreBytes}
+use Rattle.format.proofs.PackedLaws.{packed-read-back, packed-as-written, ArePacked}
 use Rattle.format.proofs.EntriesLaws.{heads-count, sizes-count, values-length, values-below, heads-below, rising-length, first-read-back}
 use Rattle.format.proofs.EntriesLaws.{first-as-written, AreAllEntries}
 
@@ -82,38 +82,3 @@ pub list-exactly : (rule : Rule) (w end : ℕ) (bs : List ℕ) (es : List Entry)
     → (read-list rule w end bs ≡ ok es left) ↔ IsList rule w bs es left
 list-exactly rule w end bs es left m l y =
     (λ e. subst (Holds (IsList rule w bs)) e (list-as-written rule w end bs y), λ h. rw (h .written) (list-read-back rule w end es left m l (h .rising)))
-
--- ---- what is written are bytes
-
--- 63 varints have at most 315 bytes
-sizes-are-bytes : (room size before : ℕ) (es : List Entry) → room ≤ 63 → size + 5 * room ≤ 315 → Bytes (sizes-after room size before es)
-unfolding sizes-after
-sizes-are-bytes room size before [] l h = tt
-sizes-are-bytes zero size before (e ∷ es) l h = (omega arith, sizes-are-bytes 63 0 (e .sample) es (lit≤ tt) (lit≤ tt))
-sizes-are-bytes (suc room) size before (e ∷ es) l h =
-    sizes-are-bytes room (size + length (varint-bytes (e .sample - before))) (e .sample) es (omega arith)
-    (omega (arith, varint-length (e .sample - before) .1))
-
--- a size byte is a byte
-pub size-bytes-are-bytes : (es : List Entry) → Bytes (size-bytes es)
-unfolding size-bytes
-size-bytes-are-bytes [] = tt
-size-bytes-are-bytes (e ∷ es) = sizes-are-bytes 63 0 (e .sample) es (lit≤ tt) (lit≤ tt)
-
--- the steps are written in bytes
-pub steps-are-bytes : (rule : Rule) (room before least : ℕ) (es : List Entry) → rule .samples < 2 ^ 32 → Rising rule least es → Bytes (steps room before es)
-unfolding steps
-steps-are-bytes rule room before least [] m g = tt
-steps-are-bytes rule zero before least (e ∷ es) m g = steps-are-bytes rule 63 (e .sample) (suc (e .sample)) es m (g .1)
-steps-are-bytes rule (suc room) before least (e ∷ es) m g =
-    below-append 256 (varint-bytes (e .sample - before)) (steps room (e .sample) es) (varint-are-bytes (e .sample - before) (omega (arith, g .0 .inside)))
-    (steps-are-bytes rule room (e .sample) (suc (e .sample)) es m (g .1))
-
--- a list is written in bytes
-pub list-are-bytes : (rule : Rule) (w : ℕ) (es : List Entry) → rule .samples < 2 ^ 32 → Rising rule 0 es → Bytes (list-bytes w es)
-unfolding list-parts
-list-are-bytes rule w es m g =
-    below-append 256 (varint-bytes (length es)) _ (varint-are-bytes (length es) (omega (arith, rising-length rule 0 es zero-le g)))
-    (below-append 256 (numbers-bytes w (heads 0 es)) _ (numbers-are-bytes w (heads 0 es))
-    (below-append 256 (size-bytes es) _ (size-bytes-are-bytes es)
-    (below-append 256 (packed two (values es)) _ (packed-are-bytes two (values es) (values-below rule 0 es g)) (steps-are-bytes rule 0 0 0 es m g))))

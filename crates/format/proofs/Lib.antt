@@ -30,5 +30,4 @@ pub mod Refusals
 pub mod HeaderRefusals
 pub mod Refuses
 pub mod CallRefusals
-pub mod BytesLaws
 pub mod Unique

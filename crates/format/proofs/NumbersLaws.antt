@@ -1,4 +1,4 @@
--- Numbers of w bytes, rows of them, rows of bytes: read back, as written, lengths, bytes.
+-- Numbers of w bytes, rows of them, rows of bytes: read back, as written, lengths.
 -- Assumes nothing.
 use mathlib.Core.Path.{_≡_, refl, sym, ap, _∙_}
 use Prim.Native.Nat.{ℕ, zero, suc, _+_, _*_, _/_, _%_, _^_, _<_}
@@ -10,7 +10,7 @@ use lib.Arith.{lt-one, digits-lt}
 use native.Mathlib.Omega.{arith}
 use Rattle.format.specs.Base.{Below, Bytes, ok}
 use Rattle.format.specs.Numbers.{number-bytes, read-number, numbers-bytes, read-numbers, read-bytes}
-use Rattle.format.proofs.Rules.{Holds, by-map, by-bind, below-after, below-append}
+use Rattle.format.proofs.Rules.{Holds, by-map, by-bind, below-after}
 
 -- ---- one number
 
@@ -39,11 +39,6 @@ pub number-length : (w n : ℕ) → length (number-bytes w n) ≡ w
 unfolding number-bytes
 number-length zero n = refl
 number-length (suc w) n = ap suc (number-length w (n / 256))
-
-pub number-are-bytes : (w n : ℕ) → Bytes (number-bytes w n)
-unfolding number-bytes
-number-are-bytes zero n = tt
-number-are-bytes (suc w) n = (omega arith, number-are-bytes w (n / 256))
 
 -- ---- several numbers
 
@@ -74,11 +69,6 @@ unfolding numbers-bytes
 numbers-length w [] = sym (mul-zero w)
 numbers-length w (n ∷ ns) =
     length-append (number-bytes w n) (numbers-bytes w ns) ∙ omega (arith, number-length w n, numbers-length w ns, mul-suc w (length ns))
-
-pub numbers-are-bytes : (w : ℕ) (ns : List ℕ) → Bytes (numbers-bytes w ns)
-unfolding numbers-bytes
-numbers-are-bytes w [] = tt
-numbers-are-bytes w (n ∷ ns) = below-append 256 (number-bytes w n) (numbers-bytes w ns) (number-are-bytes w n) (numbers-are-bytes w ns)
 
 -- ---- bytes as they are
 

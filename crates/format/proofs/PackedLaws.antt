@@ -1,14 +1,14 @@
--- Packed arrays, for every number of bits at once: read back, as written, lengths, bytes, one number by its index.
+-- Packed arrays, for every number of bits at once: read back, as written, lengths, one number by its index.
 -- Assumes nothing.
 use mathlib.Core.Path.{_≡_, refl, sym, ap, _∙_}
 use Prim.Native.Nat.{ℕ, zero, suc, _+_, _-_, _/_, _%_, _^_, _≤_, _<_, zero-le, suc-le-suc}
-use native.Mathlib.Nat.{mod-lt, div-add-mod', div-lt-iff-lt-mul, pow-suc, pow-zero, pow-succ', one-le-pow, div-one, div-div-eq-div-mul, mod-eq-of-lt}
+use native.Mathlib.Nat.{mod-lt, div-add-mod', div-lt-iff-lt-mul, pow-suc, pow-zero, pow-succ', div-one, div-div-eq-div-mul, mod-eq-of-lt}
 use native.Mathlib.Nat.{div-eq-of-lt, add-div-left, add-div-right, add-mod-left, zero-lt-suc, zero-add, suc-add, lt-div-mul-add}
 use native.Mathlib.Numerals.{add-one}
 use mathlib.Core.List.{List, [], _∷_, _++_}
 use lib.ListN.{length, getD, List·getD-append}
 use lib.Dec.{eqb, lit<}
-use lib.Arith.{digits-div, digits-mod, digits-lt, lt-one}
+use lib.Arith.{digits-div, digits-mod, lt-one}
 use native.Mathlib.Omega.{arith}
 use borrow.Author.Tests.{eqb-true}
 use Rattle.format.specs.Base.{Below, Bytes, ok}
@@ -81,7 +81,7 @@ pub packed-as-written : (end : ℕ) (bits : Bits) (n : ℕ) (bs : List ℕ) → 
 packed-as-written end bits n bs y =
     after-as-written end (limit bits) (more bits) 0 0 n bs (limit-positive bits) (limit-fills bits) (rw pow-zero (lit< tt)) y
 
--- ---- lengths and bytes
+-- ---- lengths
 
 after-length : (b m room : ℕ) (vs : List ℕ) → room ≤ m → length (packed-after b m room vs) ≡ (length vs + (m - room)) / suc m
 unfolding packed-after
@@ -98,22 +98,6 @@ pub packed-length : (bits : Bits) (n : ℕ) (vs : List ℕ) → length vs ≡ n 
 packed-length bits n vs e =
     after-length (limit bits) (more bits) 0 vs zero-le
     ∙ (let f : length vs + (more bits - 0) ≡ n + more bits = omega arith in ap (λ (k : ℕ). k / suc (more bits)) f)
-
-byte-of-lt : (b room : ℕ) (vs : List ℕ) → zero < b → Below b vs → byte-of b room vs < b ^ room
-unfolding byte-of
-byte-of-lt b room [] p h = one-le-pow room b p
-byte-of-lt b zero (v ∷ vs) p h = rw pow-zero (lit< tt)
-byte-of-lt b (suc room) (v ∷ vs) p h = rw pow-suc (digits-lt (byte-of-lt b room vs p (h .1)) (h .0))
-
-after-are-bytes : (b m room : ℕ) (vs : List ℕ) → zero < b → b ^ suc m ≡ 256 → Below b vs → Bytes (packed-after b m room vs)
-unfolding packed-after
-after-are-bytes b m room [] p w h = tt
-after-are-bytes b m zero (v ∷ vs) p w h =
-    (rw (← w, pow-suc) (digits-lt (byte-of-lt b m vs p (h .1)) (h .0)), after-are-bytes b m m vs p w (h .1))
-after-are-bytes b m (suc room) (v ∷ vs) p w h = after-are-bytes b m room vs p w (h .1)
-
-pub packed-are-bytes : (bits : Bits) (vs : List ℕ) → Below (limit bits) vs → Bytes (packed bits vs)
-packed-are-bytes bits vs h = after-are-bytes (limit bits) (more bits) 0 vs (limit-positive bits) (limit-fills bits) h
 
 -- ---- one number by its index
 

@@ -1,19 +1,76 @@
 -- The six pair codes: their numbers read back, and the one rule of the table: a code's image stands for the exchanged pair.
 -- Assumes nothing.
-use mathlib.Core.Path.{_≡_, refl, ap, ap₂, _∙_}
+use mathlib.Core.Path.{_≡_, refl, ap, ap₂, _∙_, subst}
 use Prim.Native.Nat.{ℕ, zero, suc, _<_}
 use mathlib.Core.Bool.{Bool, true, false, _&&_, _||_}
 use mathlib.Core.List.{List, [], _∷_, map}
 use lib.ListN.{length, getD}
-use lib.Dec.{eqb, lit<}
+use lib.Dec.{eqb, ltb, lit<}
 use native.Mathlib.Omega.{arith}
-use borrow.Author.Tests.{eqb-true}
+use borrow.Author.Tests.{eqb-true, ltb-true}
 use Rattle.format.specs.Category.{exchange, exchange-if, exchange-all, just-one}
 use Rattle.format.specs.PairCode.{PairCode, code-1, code-2, code-3, code-5, code-6, code-9, pair-codes, pair, image, category-of, in-pair, Coded, coded}
 use Rattle.format.specs.PairCode.{not-coded, seek, code-numbered}
 use Rattle.format.specs.Track.{image-if}
-use Rattle.format.proofs.Rules.{by-test}
+use Rattle.format.proofs.Rules.{by-test, both}
 use Rattle.format.proofs.CategoryLaws.{exchange-eqb, just-one-joined}
+
+-- ---- the table, row by row
+
+-- a list that f made has at each index what f gives there
+pub map-at {ℓ} : {A : Type 0} {B : Type ℓ} (f : A → B) (xs : List A) (other : B) (last : A) (i : ℕ) → i < length xs
+    → getD (map f xs) i other ≡ f (getD xs i last)
+map-at f [] other last i l = absurd (omega arith)
+map-at f (x ∷ xs) other last zero l = refl
+map-at f (x ∷ xs) other last (suc i) l = map-at f xs other last i (omega arith)
+
+-- where a code stands in the table
+abbrev row-of : PairCode → ℕ
+row-of code-1 = 0
+row-of code-2 = 1
+row-of code-3 = 2
+row-of code-5 = 3
+row-of code-6 = 4
+row-of code-9 = 5
+
+in-table : (c : PairCode) → (row-of c < length pair-codes) × (getD pair-codes (row-of c) code-9 ≡ c)
+in-table code-1 = (lit< tt, refl)
+in-table code-2 = (lit< tt, refl)
+in-table code-3 = (lit< tt, refl)
+in-table code-5 = (lit< tt, refl)
+in-table code-6 = (lit< tt, refl)
+in-table code-9 = (lit< tt, refl)
+
+-- a test holds of every row with either bit
+abbrev every-row : (PairCode → Bool → Bool) → List PairCode → Bool
+every-row test [] = true
+every-row test (c ∷ cs) = (test c true && test c false) && every-row test cs
+
+either-bit : (test : Bool → Bool) → test true && test false ≡ true → (bit : Bool) → test bit ≡ true
+either-bit test h true = both (test true) (test false) h .0
+either-bit test h false = both (test true) (test false) h .1
+
+at-row : (test : PairCode → Bool → Bool) (cs : List PairCode) → every-row test cs ≡ true → (i : ℕ) → i < length cs → (bit : Bool)
+    → test (getD cs i code-9) bit ≡ true
+at-row test [] h i l bit = absurd (omega arith)
+at-row test (c ∷ cs) h zero l bit = either-bit (test c) (both (test c true && test c false) (every-row test cs) h .0) bit
+at-row test (c ∷ cs) h (suc i) l bit = at-row test cs (both (test c true && test c false) (every-row test cs) h .1) i (omega arith) bit
+
+-- what one computed test finds of the whole table holds of every code
+pub by-table : (test : PairCode → Bool → Bool) → every-row test pair-codes ≡ true → (c : PairCode) (bit : Bool) → test c bit ≡ true
+by-table test h c bit =
+    subst (λ (d : PairCode). test d bit ≡ true) (in-table c .1) (at-row test pair-codes h (row-of c) (in-table c .0) bit)
+
+-- THE TABLE'S RULE, one test of a row: its numbers are a byte and two categories; its image is the row of the number that it names; and under the image, the
+-- bit turned where the row says that the order turns, a bit stands for the exchanged category
+abbrev row-obeys : PairCode → Bool → Bool
+row-obeys c bit =
+    (ltb (pair c .code) 256 && ltb (category-of c bit) 4)
+    && (eqb (pair (image c) .code) (pair c .image)
+    && eqb (category-of (image c) (just-one (pair c .turns) bit)) (exchange (category-of c bit)))
+
+pub table-rule : (c : PairCode) (bit : Bool) → row-obeys c bit ≡ true
+table-rule = by-table row-obeys refl
 
 -- ---- numbers
 
@@ -43,45 +100,30 @@ pub code-as-written : (number : ℕ) → IsCode number (code-numbered number)
 unfolding code-numbered
 code-as-written number = seek-as-written number pair-codes
 
--- a code's number is a byte
-pub code-is-byte : (c : PairCode) → pair c .code < 256
-code-is-byte code-1 = lit< tt
-code-is-byte code-2 = lit< tt
-code-is-byte code-3 = lit< tt
-code-is-byte code-5 = lit< tt
-code-is-byte code-6 = lit< tt
-code-is-byte code-9 = lit< tt
+module _ (c : PairCode) (bit : Bool) where
+  small : ltb (pair c .code) 256 && ltb (category-of c bit) 4 ≡ true
+  small = both (ltb (pair c .code) 256 && ltb (category-of c bit) 4) _ (table-rule c bit) .0
+
+  turned : eqb (pair (image c) .code) (pair c .image) && eqb (category-of (image c) (just-one (pair c .turns) bit)) (exchange (category-of c bit)) ≡ true
+  turned = both (ltb (pair c .code) 256 && ltb (category-of c bit) 4) _ (table-rule c bit) .1
 
 -- the two of a pair are categories
 pub category-of-below : (c : PairCode) (bit : Bool) → category-of c bit < 4
-category-of-below code-1 b = elim b [ true ↦ lit< tt | false ↦ lit< tt ]
-category-of-below code-2 b = elim b [ true ↦ lit< tt | false ↦ lit< tt ]
-category-of-below code-3 b = elim b [ true ↦ lit< tt | false ↦ lit< tt ]
-category-of-below code-5 b = elim b [ true ↦ lit< tt | false ↦ lit< tt ]
-category-of-below code-6 b = elim b [ true ↦ lit< tt | false ↦ lit< tt ]
-category-of-below code-9 b = elim b [ true ↦ lit< tt | false ↦ lit< tt ]
+category-of-below c bit = ltb-true (category-of c bit) 4 (both (ltb (pair c .code) 256) _ (small c bit) .1)
 
 -- ---- the image
 
 -- the table's number of the image is the image's number
 pub image-number : (c : PairCode) → pair (image c) .code ≡ pair c .image
-image-number code-1 = refl
-image-number code-2 = refl
-image-number code-3 = refl
-image-number code-5 = refl
-image-number code-6 = refl
-image-number code-9 = refl
+image-number c = eqb-true (pair (image c) .code) (pair c .image) (both (eqb (pair (image c) .code) (pair c .image)) _ (turned c true) .0)
 
--- the rule of the table: under the image, with its bit turned where the order of the pair turns, a sample has the exchanged category
+-- under the image, with its bit turned where the order of the pair turns, a sample has the exchanged category
 pub category-of-image : (member : Bool) (c : PairCode) (bit : Bool)
     → category-of (image-if member c) (just-one (member && pair c .turns) bit) ≡ exchange-if member (category-of c bit)
 category-of-image false c b = refl
-category-of-image true code-1 b = elim b [ true ↦ refl | false ↦ refl ]
-category-of-image true code-2 b = elim b [ true ↦ refl | false ↦ refl ]
-category-of-image true code-3 b = elim b [ true ↦ refl | false ↦ refl ]
-category-of-image true code-5 b = elim b [ true ↦ refl | false ↦ refl ]
-category-of-image true code-6 b = elim b [ true ↦ refl | false ↦ refl ]
-category-of-image true code-9 b = elim b [ true ↦ refl | false ↦ refl ]
+category-of-image true c b =
+    eqb-true (category-of (image c) (just-one (pair c .turns) b)) (exchange (category-of c b))
+    (both (eqb (pair (image c) .code) (pair c .image)) _ (turned c b) .1)
 
 -- the same of a row
 pub categories-of-image : (member : Bool) (c : PairCode) (bits : List Bool)
@@ -135,12 +177,3 @@ bits-turned-twice a b (x ∷ bits) = ap₂ _∷_ (just-one-joined a b x) (bits-t
 pub bits-not-turned : (bits : List Bool) → map (just-one false) bits ≡ bits
 bits-not-turned [] = refl
 bits-not-turned (x ∷ bits) = ap (_∷_ x) (bits-not-turned bits)
-
--- ---- the table in code
-
--- THE TABLE'S RULE, over every row at once: a list that f made has at each index what f gives there
-pub table-rule {ℓ} : {A : Type 0} {B : Type ℓ} (f : A → B) (xs : List A) (other : B) (last : A) (i : ℕ) → i < length xs
-    → getD (map f xs) i other ≡ f (getD xs i last)
-table-rule f [] other last i l = absurd (omega arith)
-table-rule f (x ∷ xs) other last zero l = refl
-table-rule f (x ∷ xs) other last (suc i) l = table-rule f xs other last i (omega arith)

@@ -1,7 +1,7 @@
 -- What one variant of an accepted file reads as: the row that the format defines, also where it leans on an anchor.
 -- Assumes nothing.
 use mathlib.Core.Path.{_≡_, refl, sym, ap, ap₂, _∙_, subst}
-use Prim.Native.Nat.{ℕ, zero, suc, _*_, _≤_, _<_}
+use Prim.Native.Nat.{ℕ, zero, suc, _≤_, _<_}
 use mathlib.Core.Bool.{true, false}
 use mathlib.Core.List.{List, [], _∷_, map}
 use lib.ListN.{length, getD, length-map, List·getD-map}
@@ -11,7 +11,7 @@ use Rattle.format.specs.Base.{Bytes, Out, ok, bind, map-out}
 use Rattle.format.specs.Limits.{most-samples}
 use Rattle.format.specs.Track.{plain}
 use Rattle.format.specs.Body.{Body, body-type, body-bytes, BodyFits, read-body, body-categories, type-leans, body-leans}
-use Rattle.format.specs.Variant.{file-variant, next-variant, block-of, anchor}
+use Rattle.format.specs.Variant.{file-variant, next-variant, anchor}
 use Rattle.format.specs.Layout.{Layout, record-start}
 use Rattle.format.specs.File.{File, layout-of-file, file-bytes, next-anchor, rows, BodiesFit, Obeys, read-file, type-of, read-over, read-variant}
 use Rattle.format.specs.File.{read-row, variant-leans}
@@ -116,12 +116,12 @@ module _ (K : ℕ) (f : File) (p : zero < K) (h : Obeys K f) where
       let types : List ℕ = map body-type (f .bodies) in
       let count : length types ≡ length (f .bodies) = length-map (f .bodies) body-type in
       let w : FileVariant = anchor K types v in
-      let a : IsAnchor types (block-of K v * K) (v .0) (w .0) = anchor-is K types p (h .layout .types) v (omega arith) t in
+      let a : IsAnchor K types v w = anchor-is K types p (h .layout .types) v (omega arith) t in
       let m : w .0 < length (f .bodies) = omega (arith, a .before) in
       let stands : body-leans (getD (f .bodies) (w .0) no-body) ≡ false = sym (leans-at w m) ∙ a .stands in
       let row : List ℕ = getD (rows N [] (f .bodies)) (w .0) [] in
       let same : carried N [] (f .bodies) (v .0) ≡ row = anchor-carried N [] (f .bodies) (w .0) (v .0) (a .before) (omega arith) stands
-      (λ u x y. sym (leans-at (file-variant u) (omega arith)) ∙ a .between u x y) in
+      (λ u x y. sym (leans-at (file-variant u) (omega arith)) ∙ a .between (file-variant u) x y) in
       let fits : BodyFits N row (getD (f .bodies) (v .0) no-body)
       = subst (λ (x : List ℕ). BodyFits N x (getD (f .bodies) (v .0) no-body)) same (fits-at N [] (f .bodies) (v .0) (h .bodies) l) in
       ap (λ (out : Out (List ℕ)). bind out (λ lent left. read-over K (layout-of-file f) lent v)) (stands-reads w m stands)

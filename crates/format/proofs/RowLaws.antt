@@ -11,8 +11,7 @@ use Rattle.format.specs.PairCode.{PairCode, category-of}
 use Rattle.format.specs.Track.{Kind, array, paired, against-anchor, against-category, no-kind, kind, leans-kind, Track, plain, one-bit, leaning, sparse}
 use Rattle.format.specs.Track.{off-pair, off-category, off-anchor, rule, Fits, read-kind, apply, track-categories, track-leans}
 use Rattle.format.specs.Body.{Body, BodyFits, ended, read-body, body-categories, type-leans, kind-of, body-leans}
-use Rattle.format.specs.File.{next-anchor}
-use Rattle.format.proofs.Rules.{never-both, by-test}
+use Rattle.format.proofs.Rules.{never-both}
 use Rattle.format.proofs.CategoryLaws.{exchange-all-length, exchange-all-below}
 use Rattle.format.proofs.TrackLaws.{category-below}
 use Rattle.format.proofs.PairLaws.{category-of-below}
@@ -71,11 +70,6 @@ track-row N anchor (sparse category es) f a =
 pub body-row : (N : ℕ) (anchor : List ℕ) (body : Body) → BodyFits N anchor body → (body-leans body ≡ true → IsRow N anchor)
     → IsRow N (body-categories N anchor body)
 body-row N anchor body f a = track-row N anchor (body .main) f a
-
--- and then what the next one leans on is a row
-pub next-anchor-row : (N : ℕ) (anchor : List ℕ) (body : Body) → BodyFits N anchor body → (body-leans body ≡ true → IsRow N anchor)
-    → IsRow N (next-anchor (body-leans body) anchor (body-categories N anchor body))
-next-anchor-row N anchor body f a = by-test (IsRow N) (body-leans body) a (λ t. body-row N anchor body f a)
 
 -- ---- a record that does not lean
 

@@ -1,4 +1,4 @@
--- A record's main track: read back, as written, and that what is written are bytes.
+-- A record's main track: read back, as written.
 -- Assumes nothing.
 use mathlib.Core.Path.{_≡_, refl, ap, _∙_}
 use Prim.Native.Nat.{ℕ, zero, suc, _^_, _≤_, _<_}
@@ -15,10 +15,10 @@ use Rattle.format.specs.Difflist.{Entry, Rising, number-width, list-byte
 use Rattle.format.specs.PairCode.{PairCode, pair, Coded, coded, not-coded, code-numbered}
 use Rattle.format.specs.Track.{kind, Track, plain, one-bit, leaning, sparse, track-kind, off-pair, off-category, off-anchor, rule, Fits, bit-number}
 use Rattle.format.specs.Track.{bit-set, track-bytes, as-read, read-pair-code, read-listed, read-kind, read-track, track-leans, against-category, leans}
-use Rattle.format.proofs.Rules.{Holds, by-test, by-map, by-bind, below-after, below-append}
-use Rattle.format.proofs.PackedLaws.{packed-read-back, packed-as-written, packed-are-bytes, ArePacked}
-use Rattle.format.proofs.DifflistLaws.{IsList, list-read-back, list-as-written, list-are-bytes}
-use Rattle.format.proofs.PairLaws.{IsCode, code-read-back, code-as-written, code-is-byte}
+use Rattle.format.proofs.Rules.{Holds, by-test, by-map, by-bind, below-after}
+use Rattle.format.proofs.PackedLaws.{packed-read-back, packed-as-written, ArePacked}
+use Rattle.format.proofs.DifflistLaws.{IsList, list-read-back, list-as-written}
+use Rattle.format.proofs.PairLaws.{IsCode, code-read-back, code-as-written}
 
 -- ---- kinds
 
@@ -176,17 +176,3 @@ track-as-written end N anchor (suc (suc (suc (suc (suc (suc zero)))))) bs y =
 track-as-written end N anchor (suc (suc (suc (suc (suc (suc (suc zero))))))) bs y =
     by-listed _ (sparse 3) end N (off-category 3) bs y (λ es left w g. record { kind = refl; fits = (refl, g); written = w })
 track-as-written end N anchor (suc (suc (suc (suc (suc (suc (suc (suc number)))))))) bs y = tt
-
--- ---- what is written are bytes
-
--- a track that fits is written in bytes
-pub track-are-bytes : (N : ℕ) (anchor : List ℕ) (t : Track) → N ≤ most-samples → Fits N anchor t → Bytes (track-bytes N t)
-unfolding track-bytes
-track-are-bytes N anchor (plain categories) l f = packed-are-bytes two categories (f .1)
-track-are-bytes N anchor (one-bit c bits es) l f = (
-  code-is-byte c,
-  below-append 256 (packed one (map bit-number bits)) (list-bytes (number-width N) es) (packed-are-bytes one (map bit-number bits) (bits-below bits))
-      (list-are-bytes (rule N (off-pair c)) (number-width N) es (omega arith) (f .1)),
-)
-track-are-bytes N anchor (leaning inverted es) l f = list-are-bytes (rule N (off-anchor anchor)) (number-width N) es (omega arith) f
-track-are-bytes N anchor (sparse category es) l f = list-are-bytes (rule N (off-category category)) (number-width N) es (omega arith) (f .1)

@@ -1,12 +1,13 @@
--- 01, How far each contract reaches: "Prove that two replies allowed by it are equal". What the contract of a public call allows, it allows once: the
--- answer and every buffer that the call was lent. Both sides of a contract are the same record, and that record tells them.
+-- 01, How far each contract reaches: "Prove that two replies allowed by it are equal". What a call replied and left, as the `-left` of specs/Reply has it,
+-- tells the answer and every buffer. The laws about the contracts stand with the calls, in proofs/Unique of their crates: `Post` there is what a contract
+-- asks of a reply and of what was lent, as the prover reads it from the code, so that a contract that says less is refused; `left` has the parameters
+-- as the call leaves them, in order.
 -- Assumes nothing.
 use mathlib.Core.Path.{_≡_, refl, sym, ap, _∙_}
 use Prim.Native.Nat.{ℕ}
 use mathlib.Core.Bool.{true, false}
 use mathlib.Core.List.{List}
 use native.Mathlib.Omega.{arith}
-use Rattle.format.specs.declared.FileVariant.{FileVariant}
 use Rattle.format.specs.declared.Fields.{Fields}
 use Rattle.format.specs.declared.Refusal.{Refusal}
 use Rattle.format.specs.declared.HeaderReply.{HeaderReply}
@@ -19,8 +20,7 @@ use Rattle.format.specs.declared.WriteReply.{WriteReply}
 use Rattle.format.specs.declared.WriteReply.the-variants as write
 use Rattle.format.specs.Base.{Out, ok, refused}
 use Rattle.format.specs.Reply.{Verdict, verdict, given-or, header-answer, plain-answer, lookup-answer, write-answer, Summary, no-fields, header-left}
-use Rattle.format.specs.Reply.{header-call, Checked, check-left, check-call, Read, read-left, read-call, Lookup, lookup-left, lookup-call, View}
-use Rattle.format.specs.Reply.{view-left, view-call, Written, write-left, write-call, Flipped, flip-left, flip-call}
+use Rattle.format.specs.Reply.{Checked, check-left, Read, read-left, Lookup, lookup-left, Viewed, view-left, Written, write-left, Flipped, flip-left}
 
 -- acceptance is never a refusal
 pub apart : {A : Type 0} → true ≡ false → A
@@ -82,45 +82,37 @@ write-ways = record { accept = write.Count; deny = write.Refused; as-out = write
 
 -- ---- the calls
 
-same-header : (r s : HeaderReply) → header-left r ≡ header-left s → r ≡ s
+pub same-header : (r s : HeaderReply) → header-left r ≡ header-left s → r ≡ s
 same-header r s e = same-answer header-ways no-fields r s (ap (λ (z : Summary). z .verdict) e) (ap (λ (z : Summary). z .fields) e)
 
-pub header-unique : (K : ℕ) (file : List ℕ) (r s : HeaderReply) → header-left r ≡ header-call K file → header-left s ≡ header-call K file → r ≡ s
-header-unique K file r s p q = same-header r s (p ∙ sym q)
+pub same-check : (r s : HeaderReply) (work work₁ : List ℕ) → check-left r work ≡ check-left s work₁ → (r ≡ s) × (work ≡ work₁)
+same-check r s work work₁ e = (same-header r s (ap (λ (z : Checked). z .reply) e), ap (λ (z : Checked). z .work) e)
 
-pub check-unique : (K : ℕ) (file work work₁ work₂ : List ℕ) (r s : HeaderReply)
-    → check-left r work₁ ≡ check-call K file work → check-left s work₂ ≡ check-call K file work → (r ≡ s) × (work₁ ≡ work₂)
-check-unique K file work work₁ work₂ r s p q = (same-header r s (ap (λ (z : Checked). z .reply) (p ∙ sym q)), ap (λ (z : Checked). z .work) (p ∙ sym q))
-
-pub read-unique : (K : ℕ) (file : List ℕ) (v : FileVariant) (output work o₁ o₂ w₁ w₂ : List ℕ) (r s : Reply)
-    → read-left r o₁ w₁ ≡ read-call K file v output work → read-left s o₂ w₂ ≡ read-call K file v output work → (r ≡ s) × (o₁ ≡ o₂) × (w₁ ≡ w₂)
-read-unique K file v output work o₁ o₂ w₁ w₂ r s p q =
-    let e : read-left r o₁ w₁ ≡ read-left s o₂ w₂ = p ∙ sym q in
+pub same-read : (r s : Reply) (output output₁ work work₁ : List ℕ) → read-left r output work ≡ read-left s output₁ work₁
+    → (r ≡ s) × (output ≡ output₁) × (work ≡ work₁)
+same-read r s output output₁ work work₁ e =
     (same-answer plain-ways tt r s (ap (λ (z : Read). z .verdict) e) refl, ap (λ (z : Read). z .output) e, ap (λ (z : Read). z .work) e)
 
-pub lookup-unique : (K : ℕ) (file : List ℕ) (v : FileVariant) (sample : ℕ) (work w₁ w₂ : List ℕ) (r s : LookupReply)
-    → lookup-left r w₁ ≡ lookup-call K file v sample work → lookup-left s w₂ ≡ lookup-call K file v sample work → (r ≡ s) × (w₁ ≡ w₂)
-lookup-unique K file v sample work w₁ w₂ r s p q =
-    let e : lookup-left r w₁ ≡ lookup-left s w₂ = p ∙ sym q in
+pub same-lookup : (r s : LookupReply) (work work₁ : List ℕ) → lookup-left r work ≡ lookup-left s work₁ → (r ≡ s) × (work ≡ work₁)
+same-lookup r s work work₁ e =
     (same-answer lookup-ways 0 r s (ap (λ (z : Lookup). z .verdict) e) (ap (λ (z : Lookup). z .category) e), ap (λ (z : Lookup). z .work) e)
 
--- the view, whose refusal stands in two lent numbers
-pub view-unique : (K : ℕ) (file : List ℕ) (v : FileVariant) (number number₁ place place₁ : ℕ) (part part₁ : List ℕ)
-    → view-left number place part ≡ view-call K file v → view-left number₁ place₁ part₁ ≡ view-call K file v
-    → (number ≡ number₁) × (place ≡ place₁) × (part ≡ part₁)
-view-unique K file v number number₁ place place₁ part part₁ p q =
-    let e : view-left number place part ≡ view-left number₁ place₁ part₁ = p ∙ sym q in
-    (ap (λ (z : View). z .refusal .number) e, ap (λ (z : View). z .refusal .place) e, ap (λ (z : View). z .part) e)
+-- the view, whose refusal stands in two lent numbers: the same bytes, in the same place
+pub same-view : (number number₁ place place₁ : ℕ) (part part₁ : List ℕ) (lies lies₁ : ℕ × ℕ)
+    → view-left number place part lies ≡ view-left number₁ place₁ part₁ lies₁
+    → (number ≡ number₁) × (place ≡ place₁) × (part ≡ part₁) × (lies ≡ lies₁)
+same-view number number₁ place place₁ part part₁ lies lies₁ e = (
+  ap (λ (z : Viewed). z .refusal .number) e,
+  ap (λ (z : Viewed). z .refusal .place) e,
+  ap (λ (z : Viewed). z .part) e,
+  ap (λ (z : Viewed). z .lies) e,
+)
 
-pub write-unique : (categories : List ℕ) (number code : ℕ) (anchor output o₁ o₂ : List ℕ) (r s : WriteReply)
-    → write-left r o₁ ≡ write-call categories number code anchor output → write-left s o₂ ≡ write-call categories number code anchor output
-    → (r ≡ s) × (o₁ ≡ o₂)
-write-unique categories number code anchor output o₁ o₂ r s p q =
-    let e : write-left r o₁ ≡ write-left s o₂ = p ∙ sym q in
+pub same-write : (r s : WriteReply) (output output₁ : List ℕ) → write-left r output ≡ write-left s output₁ → (r ≡ s) × (output ≡ output₁)
+same-write r s output output₁ e =
     (same-answer write-ways 0 r s (ap (λ (z : Written). z .verdict) e) (ap (λ (z : Written). z .count) e), ap (λ (z : Written). z .output) e)
 
-pub flip-unique : (K : ℕ) (file set work f₁ f₂ w₁ w₂ : List ℕ) (r s : Reply)
-    → flip-left r f₁ w₁ ≡ flip-call K file set work → flip-left s f₂ w₂ ≡ flip-call K file set work → (r ≡ s) × (f₁ ≡ f₂) × (w₁ ≡ w₂)
-flip-unique K file set work f₁ f₂ w₁ w₂ r s p q =
-    let e : flip-left r f₁ w₁ ≡ flip-left s f₂ w₂ = p ∙ sym q in
+pub same-flip : (r s : Reply) (file file₁ work work₁ : List ℕ) → flip-left r file work ≡ flip-left s file₁ work₁
+    → (r ≡ s) × (file ≡ file₁) × (work ≡ work₁)
+same-flip r s file file₁ work work₁ e =
     (same-answer plain-ways tt r s (ap (λ (z : Flipped). z .verdict) e) refl, ap (λ (z : Flipped). z .file) e, ap (λ (z : Flipped). z .work) e)

@@ -69,17 +69,7 @@ unfolding varint-limit
 varint-as-written end bs y =
     weaken (IsWithin 4 0 bs) (IsVarint bs) (read-varint end bs) (λ n left h. (h .0, h .2)) (within-as-written end (place-of end bs) 4 0 bs zero-le y)
 
--- ---- the bytes
-
-within-bytes : (more n : ℕ) → n < varint-limit more → Bytes (varint-within more n)
-unfolding varint-within varint-limit
-within-bytes zero n h = (omega arith, tt)
-within-bytes (suc more) n h =
-    by-test Bytes (ltb n 128) (λ t. (omega (arith, ltb-true n 128 t), tt)) (λ t. (omega arith, within-bytes more (n / 128) (omega arith)))
-
-pub varint-are-bytes : (n : ℕ) → n < 2 ^ 32 → Bytes (varint-bytes n)
-unfolding varint-limit
-varint-are-bytes n h = within-bytes 4 n h
+-- ---- how many bytes
 
 within-length : (more n : ℕ) → (1 ≤ length (varint-within more n)) × (length (varint-within more n) ≤ suc more)
 unfolding varint-within

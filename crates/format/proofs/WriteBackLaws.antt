@@ -12,13 +12,13 @@ use borrow.Author.Tests.{ne-eqb, eq-eqb, eqb-true}
 use Rattle.format.specs.Base.{pick, ok}
 use Rattle.format.specs.Category.{exchange-all}
 use Rattle.format.specs.Difflist.{Entry, Rule, Rising}
-use Rattle.format.specs.PairCode.{PairCode, code-1, code-2, code-3, code-5, code-6, code-9, pair, category-of, in-pair, coded}
+use Rattle.format.specs.PairCode.{PairCode, pair, category-of, in-pair, coded}
 use Rattle.format.specs.Track.{Kind, against-category, kind, leans, Track, plain, one-bit, leaning, sparse, track-kind, Fits, rule, off-pair}
 use Rattle.format.specs.Track.{off-category, off-anchor, put, apply, track-categories}
 use Rattle.format.specs.Writer.{differences, bits-for, pair-track, kind-track, track-for, track-code, cleared}
 use Rattle.format.proofs.Rules.{never-both, by-test}
 use Rattle.format.proofs.CategoryLaws.{exchange-all-back}
-use Rattle.format.proofs.PairLaws.{code-read-back}
+use Rattle.format.proofs.PairLaws.{code-read-back, by-table}
 use Rattle.format.proofs.DifferencesLaws.{getD-replicate, patch, patch-values, put-patch, rises-past, NeedNot, differences-patch}
 
 -- no list holds its base's value
@@ -38,21 +38,19 @@ differences-apply N may base es k e g =
 -- ---- kind 1
 
 -- a bit stands for the higher category exactly where it is set, and for one of the pair
+as-bit : (x bit : Bool) → pick bit x (not x) ≡ true → x ≡ bit
+as-bit true true h = refl
+as-bit true false h = sym h
+as-bit false true h = h
+as-bit false false h = refl
+
 higher-bit : (c : PairCode) (bit : Bool) → eqb (category-of c bit) (pair c .higher) ≡ bit
-higher-bit code-1 bit = elim bit [ true ↦ refl | false ↦ refl ]
-higher-bit code-2 bit = elim bit [ true ↦ refl | false ↦ refl ]
-higher-bit code-3 bit = elim bit [ true ↦ refl | false ↦ refl ]
-higher-bit code-5 bit = elim bit [ true ↦ refl | false ↦ refl ]
-higher-bit code-6 bit = elim bit [ true ↦ refl | false ↦ refl ]
-higher-bit code-9 bit = elim bit [ true ↦ refl | false ↦ refl ]
+higher-bit c bit =
+    as-bit (eqb (category-of c bit) (pair c .higher)) bit
+    (by-table (λ c bit. pick bit (eqb (category-of c bit) (pair c .higher)) (not (eqb (category-of c bit) (pair c .higher)))) refl c bit)
 
 bit-in-pair : (c : PairCode) (bit : Bool) → in-pair c (category-of c bit) ≡ true
-bit-in-pair code-1 bit = elim bit [ true ↦ refl | false ↦ refl ]
-bit-in-pair code-2 bit = elim bit [ true ↦ refl | false ↦ refl ]
-bit-in-pair code-3 bit = elim bit [ true ↦ refl | false ↦ refl ]
-bit-in-pair code-5 bit = elim bit [ true ↦ refl | false ↦ refl ]
-bit-in-pair code-6 bit = elim bit [ true ↦ refl | false ↦ refl ]
-bit-in-pair code-9 bit = elim bit [ true ↦ refl | false ↦ refl ]
+bit-in-pair = by-table (λ c bit. in-pair c (category-of c bit)) refl
 
 higher-in-pair : (c : PairCode) → in-pair c (pair c .higher) ≡ true
 higher-in-pair c = bit-in-pair c true

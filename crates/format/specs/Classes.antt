@@ -1,4 +1,4 @@
--- Which refusal numbers belong together, by what refuses. No other spot says so.
+-- Which refusal numbers belong together, by what refuses. No other definition says so.
 -- Assumes nothing.
 use Prim.Native.Nat.{ℕ}
 use mathlib.Core.Bool.{Bool, false, _||_}

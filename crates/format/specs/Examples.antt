@@ -13,7 +13,7 @@ use Rattle.format.specs.Difflist.{heads, sizes-after, size-bytes, values
 use Rattle.format.specs.PairCode.{code-numbered}
 use Rattle.format.specs.Track.{track-bytes, read-pair-code, read-listed, read-kind}
 use Rattle.format.specs.Body.{read-body}
-use Rattle.format.specs.Variant.{file-variant, nearest, anchor}
+use Rattle.format.specs.Variant.{file-variant, last-standing, anchor}
 use Rattle.format.specs.Layout.{fixed-bytes, sum, block-count, cut, block-bytes, blocks-bytes, blocked-bytes, arrays-bytes, block-size, blocked-size}
 use Rattle.format.specs.Layout.{arrays-size, header-bytes, block-starts, joined, in-parts, layout-bytes, record-start}
 use Rattle.format.specs.Header.{read-fixed, need-fixed, read-block, read-blocks, read-blocked, unblocked-arrays, read-arrays, block-place, type-place}
@@ -36,11 +36,11 @@ bodies-A = 0xe4 ∷ 0x00 ∷ 0x02 ∷ 0x01 ∷ 0x06 ∷ 0x03 ∷ 0x01 ∷ 0x02 �
 abbrev bodies-b : List ℕ
 bodies-b = 0xc6 ∷ 0x02 ∷ 0x02 ∷ 0x01 ∷ 0x04 ∷ 0x03 ∷ 0x01 ∷ 0x02 ∷ 0x03 ∷ []
 
-abbrev A : List ℕ
+abbrev pub A : List ℕ
 A = A-with 0x20 0x04 bodies-A
 
 -- a file of one variant and five samples, whose record is of kind 1
-abbrev one-record : List ℕ → List ℕ
+abbrev pub one-record : List ℕ → List ℕ
 one-record body = (0x6c ∷ 0x1b ∷ 0x10 ∷ 1 ∷ 0 ∷ 0 ∷ 0 ∷ 5 ∷ 0 ∷ 0 ∷ 0 ∷ 0x40 ∷ 22 ∷ 0 ∷ 0 ∷ 0 ∷ 0 ∷ 0 ∷ 0 ∷ 0 ∷ 1 ∷ 5 ∷ []) ++ body
 
 abbrev record-f : List ℕ
@@ -56,7 +56,7 @@ flip-of file set = flip-call variants-to-a-block file (set ∷ []) (replicate 5 
 abbrev record-of : List ℕ → ℕ → ℕ → ℕ → List ℕ
 record-of categories kind code lent = write-call categories kind code [] (replicate lent 7) .output
 
-abbrev number-and-place : Refusal → List ℕ
+abbrev pub number-and-place : Refusal → List ℕ
 number-and-place why = why .number ∷ why .place ∷ []
 
 -- a row of N samples, sample 3 heterozygous and all others in category 0
@@ -109,7 +109,7 @@ unfolding read-call header-call write-call flip-call write-record need-categorie
     read-all read-records file-bytes read-layout read-data read-bodies split-bodies need-offsets read-header read-after-fixed need-types type-place block-place
     read-arrays unblocked-arrays
     read-blocked read-blocks read-block need-fixed read-fixed record-start layout-bytes in-parts header-bytes joined block-starts arrays-size blocked-size
-    block-size arrays-bytes blocked-bytes blocks-bytes block-bytes cut block-count sum fixed-bytes anchor nearest read-body read-kind read-listed
+    block-size arrays-bytes blocked-bytes blocks-bytes block-bytes cut block-count sum fixed-bytes anchor last-standing read-body read-kind read-listed
     read-pair-code track-bytes code-numbered read-list read-parts read-first read-entries read-entry list-parts steps values size-bytes sizes-after
     heads read-packed-after packed-after byte-of read-bytes read-numbers numbers-bytes read-number number-bytes read-varint-within varint-within
 examples-hold = refl

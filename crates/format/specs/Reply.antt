@@ -18,7 +18,7 @@ use Rattle.format.specs.declared.WriteReply.{WriteReply}
 use Rattle.format.specs.declared.WriteReply.the-variants as write
 use Rattle.format.specs.Base.{pick, Out, ok, refused, refusal, bind, map-out, need}
 use Rattle.format.specs.Classes.{header-numbers, call-numbers, among}
-use Rattle.format.specs.Layout.{fields-of, Layout, fixed-of}
+use Rattle.format.specs.Layout.{fields-of, Layout, fixed-of, record-start}
 use Rattle.format.specs.Header.{read-layout}
 use Rattle.format.specs.Body.{Body}
 use Rattle.format.specs.File.{read-all, read-variant, flip-bytes}
@@ -181,24 +181,37 @@ lookup-call K file v sample work = record {
 
 -- ---- view
 
+-- the part of the file that is handed back: its bytes, and where in the file it starts
 pub record View : Type 0 where
   pub refusal : Refusal
   pub part : List ℕ
-
--- the refusal's number and place, which the call leaves in two lent numbers, and the part that it hands back
-abbrev pub view-left : ℕ → ℕ → List ℕ → View
-view-left number place part = record { refusal = refusal number place; part = part }
+  pub start : ℕ
 
 -- 01: "A view checks 1 to 9 and 11 only."
-abbrev pub view-out : ℕ → List ℕ → FileVariant → Out (List ℕ)
-view-out K file v = bind (read-layout K file) (λ l left. need-variant v l (ok (getD (l .bodies) (v .0) []) []))
+abbrev pub view-out : ℕ → List ℕ → FileVariant → Out Layout
+view-out K file v = bind (read-layout K file) (λ l left. need-variant v l (ok l []))
 
--- 01: "A refused view is the empty part."
+-- 01: "A refused view is the empty part." It starts where the file does.
 unfoldable pub view-call : ℕ → List ℕ → FileVariant → View
 view-call K file v = record {
   refusal = refusal-of (view-out K file v);
-  part = given-or [] (view-out K file v);
+  part = given (λ (l : Layout). getD (l .bodies) (v .0) []) [] (view-out K file v);
+  start = given (λ (l : Layout). record-start K l v) 0 (view-out K file v);
 }
+
+-- what a view leaves: the refusal's number and place in two lent numbers, the part's bytes, and where they lie in memory: a block of it, and how many bytes
+-- into it
+pub record Viewed : Type 0 where
+  pub refusal : Refusal
+  pub part : List ℕ
+  pub lies : ℕ × ℕ
+
+abbrev pub view-left : ℕ → ℕ → List ℕ → ℕ × ℕ → Viewed
+view-left number place part lies = record { refusal = refusal number place; part = part; lies = lies }
+
+-- 01: "as a part of the caller's file", which itself lies at `lies`
+abbrev pub part-of-file : ℕ × ℕ → View → Viewed
+part-of-file lies view = record { refusal = view .refusal; part = view .part; lies = (lies .0, view .start + lies .1) }
 
 -- ---- write
 
@@ -221,11 +234,8 @@ write-call categories number code anchor output = record {
 -- ---- flip
 
 -- 01, Flipping: "The set has bit v for variant v."
-abbrev pub set-bit : List ℕ → ℕ → Bool
-set-bit set v = eqb (getD set (v / 8) 0 / 2 ^ (v % 8) % 2) 1
-
 abbrev pub member : List ℕ → FileVariant → Bool
-member set v = set-bit set (v .0)
+member set v = eqb (getD set (v .0 / 8) 0 / 2 ^ (v .0 % 8) % 2) 1
 
 -- 01: 21, "flip set has bits past the last variant": what the set holds from bit M on, 0 where M bits fill its last byte
 abbrev pub past-last : ℕ → List ℕ → ℕ

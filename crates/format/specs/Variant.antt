@@ -29,10 +29,14 @@ abbrev pub in-file : ℕ → ℕ → BlockVariant → FileVariant
 in-file K block i = file-variant (block * K + i .0)
 
 -- 01, Categories and kinds: "the anchor, which is the nearest earlier variant in the same block whose kind is neither 2 nor 3"
--- among the first i of a block's types, from the last of them back
-unfoldable pub nearest : List ℕ → ℕ → BlockVariant
-nearest types zero = block-variant 0
-nearest types (suc i) = pick (type-leans (getD types i 0)) (nearest types i) (block-variant i)
+-- among so many of a block's first variants, from the last of them back, by the block's types
+unfoldable pub last-standing : List ℕ → ℕ → BlockVariant
+last-standing types zero = block-variant 0
+last-standing types (suc count) = pick (type-leans (getD types count 0)) (last-standing types count) (block-variant count)
+
+-- among those before variant i of the block
+abbrev pub nearest : List ℕ → BlockVariant → BlockVariant
+nearest types i = last-standing types (i .0)
 
 unfoldable pub anchor : ℕ → List ℕ → FileVariant → FileVariant
-anchor K types v = in-file K (block-of K v) (nearest (drop (block-of K v * K) types) (in-block K v .0))
+anchor K types v = in-file K (block-of K v) (nearest (drop (block-of K v * K) types) (in-block K v))

@@ -32,6 +32,17 @@ pub struct FileVariant(pub usize);
 
 pub struct BlockVariant(pub usize);
 
+// The first variant of a block, or of a file, that is looked for; or that there is none: no number past the last stands for that.
+pub enum FoundInBlock {
+    At(BlockVariant),
+    Nowhere,
+}
+
+pub enum FoundInFile {
+    At(FileVariant),
+    Nowhere,
+}
+
 // 01, The header: "Bytes 0 to 2: 0x6c 0x1b and the mode. Bytes 3 to 6: M. Bytes 7 to 10: N. Byte 11: the form." All but the first two, read once.
 pub struct Fields {
     pub mode: u8,

@@ -1,10 +1,10 @@
 -- The fixed fields by index, and how many bytes a block's arrays take.
 -- Assumes nothing.
 use mathlib.Core.Path.{_≡_, refl}
-use Prim.Native.Nat.{ℕ, zero, suc, _+_, _*_, _/_, _≤_, _<_}
+use Prim.Native.Nat.{ℕ, _+_, _*_, _/_, _≤_}
 use native.Mathlib.Nat.{div-one, mul-le-mul-right}
 use mathlib.Core.Bool.{Bool, true, false}
-use mathlib.Core.List.{List, [], _∷_}
+use mathlib.Core.List.{List}
 use lib.ListN.{drop, getD}
 use mir.Syntax.{w8, w64}
 use mir.Val.{Fits}
@@ -14,7 +14,7 @@ use Rattle.format.specs.Base.{pick, Bytes}
 use Rattle.format.specs.Packed.{one, four, eight, packed-size}
 use Rattle.format.specs.Layout.{fields-of, block-size}
 use Rattle.head_index.specs.NumbersAt.{number-at, fixed-at}
-use Rattle.head_numbers.proofs.Sums.{low-byte}
+use Rattle.head_index.proofs.ByIndex.{bytes-of, low-byte}
 use Rattle.head_blocks.specs.Parts.{form-from}
 
 -- the fields, as they are read
@@ -73,15 +73,6 @@ block-most n half width stored w = omega (arith, types-small n half, mul-le-mul-
 
 -- ---- a list of bytes
 
-pub all-bytes : (bs : List ℕ) → ((i : ℕ) → getD bs i 0 < 256) → Bytes bs
-all-bytes [] h = tt
-all-bytes (x ∷ bs) h = (h 0, all-bytes bs (λ i. h (suc i)))
-
 -- what the prover knows of a lent file
 pub known-bytes : (file : List ℕ) → ((i : ℕ) → Fits w8 (getD file i 0)) → Bytes file
-known-bytes file k = all-bytes file (λ i. k i .fits)
-
-pub byte-below : (bs : List ℕ) (i : ℕ) → Bytes bs → getD bs i 0 < 256
-byte-below [] i y = omega arith
-byte-below (x ∷ bs) zero y = y .0
-byte-below (x ∷ bs) (suc i) y = byte-below bs i (y .1)
+known-bytes file k = bytes-of file (λ i. k i .fits)

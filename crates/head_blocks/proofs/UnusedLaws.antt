@@ -1,73 +1,24 @@
 -- The unused bits of a packed array, by the one byte that can have some.
 -- Assumes nothing.
-use mathlib.Core.Path.{_≡_, refl, sym, ap, _∙_}
-use Prim.Native.Nat.{ℕ, zero, suc, _+_, _/_, _%_, _^_, _≤_, _<_}
-use native.Mathlib.Nat.{div-eq-of-lt, mod-one, zero-mod}
+use mathlib.Core.Path.{_≡_, refl, sym, ap}
+use Prim.Native.Nat.{ℕ, suc, _+_, _/_, _%_, _^_, _≤_, _<_}
+use native.Mathlib.Nat.{mod-one}
 use mathlib.Core.Bool.{Bool, true, false, not}
 use mathlib.Core.List.{List}
 use lib.ListN.{length, drop, getD}
 use lib.Dec.{eqb}
 use native.Mathlib.Omega.{arith}
 use borrow.Author.Tests.{eq-eqb, not-true, not-false}
-use Rattle.format.specs.Base.{pick, Bytes}
-use Rattle.format.specs.Packed.{Bits, one, two, four, eight, limit, more, packed-size}
+use Rattle.format.specs.Base.{pick}
+use Rattle.format.specs.Packed.{Bits, one, four, eight, more, packed-size}
 use Rattle.head_index.specs.NumbersAt.{unused-bits}
-use Rattle.head_index.proofs.UnusedBits.{unused-none, unused-bits-at}
-use Rattle.head_blocks.proofs.Sizes.{byte-below}
+use Rattle.head_index.proofs.UnusedBits.{none-unused, some-unused, next-inside}
 
 -- ---- of any array
 
--- a number that fills its byte
-full-byte : (bits : Bits) → limit bits ^ suc (more bits) ≡ 256
-full-byte one = refl
-full-byte two = refl
-full-byte four = refl
-full-byte eight = refl
-
-last-digit : (bits : Bits) (i : ℕ) → suc i % suc (more bits) ≡ 0 → i % suc (more bits) ≡ more bits
-last-digit one i h = omega arith
-last-digit two i h = omega arith
-last-digit four i h = omega arith
-last-digit eight i h = mod-one i
-
--- a number that does not: the next would stand in the same byte
-same-byte : (bits : Bits) (i : ℕ) → (suc i % suc (more bits) ≡ 0 → ⊥)
-    → (i / suc (more bits) ≡ suc i / suc (more bits)) × (suc (i % suc (more bits)) ≡ suc i % suc (more bits))
-same-byte one i h = (omega arith, omega arith)
-same-byte two i h = (omega arith, omega arith)
-same-byte four i h = (omega arith, omega arith)
-same-byte eight i h = absurd (h (mod-one (suc i)))
-
 module _ (bits : Bits) (n place : ℕ) (bs : List ℕ) where
-  -- an array that fills its bytes has no unused bits
-  pub none-unused : Bytes bs → n % suc (more bits) ≡ 0 → place + packed-size bits n ≤ length bs → unused-bits bits n (drop place bs) ≡ 0
-  none-unused y e h = from n e h
-    where
-      from : (n : ℕ) → n % suc (more bits) ≡ 0 → place + packed-size bits n ≤ length bs → unused-bits bits n (drop place bs) ≡ 0
-      from zero e h = unused-none bits (drop place bs)
-      from (suc i) e h =
-          unused-bits-at bits i place bs h
-          ∙ rw (last-digit bits i e, full-byte bits) (div-eq-of-lt (byte-below bs (place + i / suc (more bits)) y))
-
-  pub none-set : Bytes bs → n % suc (more bits) ≡ 0 → place + packed-size bits n ≤ length bs → true ≡ eqb (unused-bits bits n (drop place bs)) 0
-  none-set y e h = sym (eq-eqb (unused-bits bits n (drop place bs)) 0 (none-unused y e h))
-
-  -- any other has some, in the byte that the next number would be in
-  some-unused : (n % suc (more bits) ≡ 0 → ⊥) → place + packed-size bits n ≤ length bs
-      → unused-bits bits n (drop place bs) ≡ getD bs (place + n / suc (more bits)) 0 / limit bits ^ (n % suc (more bits))
-  some-unused e h = from n e h
-    where
-      from : (n : ℕ) → (n % suc (more bits) ≡ 0 → ⊥) → place + packed-size bits n ≤ length bs
-          → unused-bits bits n (drop place bs) ≡ getD bs (place + n / suc (more bits)) 0 / limit bits ^ (n % suc (more bits))
-      from zero e h = absurd (e (zero-mod (suc (more bits))))
-      from (suc i) e h = let s = same-byte bits i e in unused-bits-at bits i place bs h ∙ rw (s .0, s .1) refl
-
--- that byte is in the array
-next-inside : (bits : Bits) (n : ℕ) → (n % suc (more bits) ≡ 0 → ⊥) → n / suc (more bits) < packed-size bits n
-next-inside one n e = omega arith
-next-inside two n e = omega arith
-next-inside four n e = omega arith
-next-inside eight n e = absurd (e (mod-one n))
+  pub none-set : n % suc (more bits) ≡ 0 → true ≡ eqb (unused-bits bits n (drop place bs)) 0
+  none-set e = sym (eq-eqb (unused-bits bits n (drop place bs)) 0 (none-unused bits n (drop place bs) e))
 
 -- ---- of types
 
@@ -92,7 +43,7 @@ module _ (half : Bool) (n place : ℕ) (bs : List ℕ) where
     pub odd-types-clear : eqb (getD bs (place + n / 2) 0 / 16) 0 ≡ eqb (unused-bits (pick half four eight) n (drop place bs)) 0
     odd-types-clear =
         let r : n % 2 ≡ 1 = omega arith in
-        rw half-holds (ap (λ (x : ℕ). eqb x 0) (sym (rw r at (some-unused four n place bs z four-inside))))
+        rw half-holds (ap (λ (x : ℕ). eqb x 0) (sym (rw r at (some-unused four n place bs z))))
 
 -- ---- of flags
 
@@ -115,7 +66,7 @@ module _ (stored : Bool) (n place : ℕ) (bs : List ℕ) where
     last-flag-inside = omega (arith, next-inside one n z, flags-inside)
 
     pub last-flags-clear : eqb (getD bs (place + n / 8) 0 / 2 ^ (n % 8)) 0 ≡ eqb (unused-bits one (pick stored n 0) (drop place bs)) 0
-    last-flags-clear = rw stored-holds (ap (λ (x : ℕ). eqb x 0) (sym (some-unused one n place bs z flags-inside)))
+    last-flags-clear = rw stored-holds (ap (λ (x : ℕ). eqb x 0) (sym (some-unused one n place bs z)))
 
 pub ruleset clear-laws =
     (none-set, whole-types, even-types, odd-type-inside, odd-types-clear, absent-flags, full-flags, last-flag-inside, last-flags-clear)

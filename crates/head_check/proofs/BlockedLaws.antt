@@ -8,7 +8,7 @@ use mathlib.Core.List.{List, []}
 use lib.ListN.{length, drop}
 use lib.Dec.{eqb, lit<}
 use native.Mathlib.Omega.{arith}
-use Rattle.format.specs.Base.{pick, Bytes, Out, ok}
+use Rattle.format.specs.Base.{pick, Out, ok}
 use Rattle.format.specs.Packed.{Bits, one, two, four, eight, more, packed-size}
 use Rattle.format.specs.Layout.{Fixed, unblocked, Form, form-of, flag-count, block-count, cut, block-size, header-end}
 use Rattle.format.specs.Header.{block-place}
@@ -74,20 +74,18 @@ flags-full true = refl
 flags-full false = refl
 
 -- a full block has none
-full-clear : {A : Type 0} (form : Form) (place : ℕ) (bs : List ℕ) (next : Out A) → Bytes bs → place + block-size form 65536 ≤ length bs
-    → need-unused form place 65536 bs next ≡ next
-unfolding need-unused block-size
-full-clear form place bs next y h =
+full-clear : {A : Type 0} (form : Form) (place : ℕ) (bs : List ℕ) (next : Out A) → need-unused form place 65536 bs next ≡ next
+unfolding need-unused
+full-clear form place bs next =
     let size : ℕ = packed-size (form .type-bits) 65536 in
     let flags : ℕ = place + (size + form .length-width * 65536) in
     let t : true ≡ eqb (unused-bits (form .type-bits) 65536 (drop place bs)) 0
-    = none-set (form .type-bits) 65536 place bs y (full-block (form .type-bits)) (omega arith) in
+    = none-set (form .type-bits) 65536 place bs (full-block (form .type-bits)) in
     let u : true ≡ eqb (unused-bits one (flag-count form 65536) (drop flags bs)) 0
-    = none-set one (flag-count form 65536) flags bs y (flags-full (form .flags-stored)) (omega arith) in
+    = none-set one (flag-count form 65536) flags bs (flags-full (form .flags-stored)) in
     simp (← t, ← u)
 
-module _ (f : Fixed) (bs : List ℕ) (blocked : unblocked (f .mode) ≡ false) (some : 1 ≤ f .variants) (most : f .variants ≤ 16777216) (y : Bytes bs)
-    (fits : header-end 65536 f ≤ length bs) where
+module _ (f : Fixed) (bs : List ℕ) (blocked : unblocked (f .mode) ≡ false) (some : 1 ≤ f .variants) where
   -- from block j on, with so many before the last
   only-last : (left j last : ℕ) → j + left ≡ last → last ≡ (f .variants - 1) / 65536
       → unused-in (form-of f) (block-place 65536 f j) (cut 65536 (block-count 65536 f - j) (f .variants - j * 65536)) bs
@@ -99,10 +97,8 @@ module _ (f : Fixed) (bs : List ℕ) (blocked : unblocked (f .mode) ≡ false) (
       rw s (turn-7 65536 last f bs (lit< tt) blocked (omega arith) ∙ rw none refl)
   only-last (suc left) j last e d =
       let full : min 65536 (f .variants - j * 65536) ≡ 65536 = omega arith in
-      let inside : block-place 65536 f j + block-size (form-of f) 65536 ≤ length bs
-      = omega (arith, block-ends f blocked some most j (omega arith), ap (block-size (form-of f)) full) in
       turn-7 65536 j f bs (lit< tt) blocked (omega arith)
-      ∙ rw full (full-clear (form-of f) (block-place 65536 f j) bs _ y inside)
+      ∙ rw full (full-clear (form-of f) (block-place 65536 f j) bs _)
       ∙ only-last left (suc j) last (omega arith) d
 
   pub last-unused : unused-arrays 65536 f bs

@@ -11,6 +11,8 @@ use mir.Val.{Fits}
 use native.Mathlib.Omega.{arith}
 use borrow.Author.Tests.{lt-ltb, le-ltb, ltb-true, ltb-false}
 use Rattle.format.specs.declared.FileVariant.{FileVariant}
+use Rattle.format.specs.declared.FoundInFile.{FoundInFile}
+use Rattle.format.specs.declared.FoundInFile.the-variants.{At, Nowhere}
 use Rattle.format.specs.declared.Fields.{Fields}
 use Rattle.format.specs.declared.Refusal.{Refusal}
 use Rattle.format.specs.declared.HeaderReply.{HeaderReply}
@@ -23,7 +25,7 @@ use Rattle.format.specs.Reply.{summary, header-left}
 use Rattle.format.proofs.BlocksLaws.{block-count-is}
 use Rattle.head_index.specs.NumbersAt.{fixed-at}
 use Rattle.head_index.specs.VariantsAt.{block-variants}
-use Rattle.head_index.specs.Rules.{need-unused, unused-arrays, bad-type, wrong-offset, starts-of, after-fixed, after-types, after-offsets}
+use Rattle.head_index.specs.Rules.{need-unused, unused-arrays, bad-type, refuse-found, wrong-offset, starts-of, after-fixed, after-types, after-offsets}
 use Rattle.head_index.specs.Known.{Passed}
 use Rattle.head_index.proofs.RefusalsByIndexArrays.{passed-known}
 use Rattle.head_index.proofs.RefusalsByIndexRecords.{refusal-8, refusal-9-offset}
@@ -73,9 +75,7 @@ module _ {bs : List ℕ} {f : Fields} {b : Blocks} (c : Placed bs f b) where
       unfolding block-variants
       all-unused =
           rw (d, c .b-is, place-is (blocks-of (fixed f)) (fixed f) refl ((f .variants - 1) / 65536)) at u
-          ∙ sym
-          (last-unused (fixed f) bs (c .blocked) (given-ranges .variants-least) (given-ranges .variants-most) (c .held .ready .bytes)
-          (c .held .fits))
+          ∙ sym (last-unused (fixed f) bs (c .blocked) (given-ranges .variants-least))
 
       pub clears : r ≡ Clear → UnusedFound bs f found.Nothing
       clears q = record { same = rw q at all-unused; seven = tt }
@@ -96,27 +96,24 @@ module _ {bs : List ℕ} {f : Fields} {b : Blocks} (c : Placed bs f b) where
     b-is = c .b-is ∙ ap blocks-of (sym (c .held .ready .same));
   }
 
-  count : fixed-at bs .variants ≡ f .variants
-  count = ap (λ (z : Fixed). z .variants) (c .held .ready .same)
+  module _ {r : FoundInFile} (k : FirstBad bs (f .variants) b r) where
+    pub bad-inside : {v : FileVariant} → r ≡ At v → v .0 < 16777216
+    bad-inside {v} l = omega (arith, k .below v l, given-ranges c .variants-most)
 
-  module _ {v : FileVariant} where
-    pub bad-inside : v .0 < f .variants → v .0 < 16777216
-    bad-inside l = omega (arith, given-ranges c .variants-most)
-
-    module _ (k : FirstBad bs (f .variants) b v) {a : Arrays} (p : Passed 65536 bs a) where
-      decided : after-fixed 65536 bs ≡ pick (ltb (v .0) (fixed-at bs .variants)) (refuse 8 (type-place 65536 (fixed-at bs) v)) (after-types 65536 bs a)
+    module _ {a : Arrays} (p : Passed 65536 bs a) where
+      decided : after-fixed 65536 bs ≡ refuse-found 65536 (fixed-at bs) r (after-types 65536 bs a)
       decided =
-          let w : v ≡ bad-type 65536 (file-variant 0) (a .columns .types) = k (fixed-at bs) a _ (arranged a p) in
+          let w : r ≡ bad-type 65536 (file-variant 0) (a .columns .types) = k .is (fixed-at bs) a _ (arranged a p) in
           rw (← w) at (refusal-8 65536 bs a p)
 
-      pub bad-8 : {place : ℕ} {why : Refusal} → v .0 < f .variants → ((f₁ : Fixed) → b ≡ blocks-of f₁ → place ≡ type-place 65536 f₁ v)
+      pub bad-8 : {v : FileVariant} {place : ℕ} {why : Refusal} → r ≡ At v → ((f₁ : Fixed) → b ≡ blocks-of f₁ → place ≡ type-place 65536 f₁ v)
           → why ≡ refusal 8 place → refused why ≡ after-fixed 65536 bs
       bad-8 l q z =
           let d = q (fixed-at bs) (c .b-is ∙ ap blocks-of (sym (c .held .ready .same))) in
-          ap refused z ∙ sym (decided ∙ simp (lt-ltb (v .0) (fixed-at bs .variants) (omega (arith, count))) (ap (refuse 8) (sym d)))
+          ap refused z ∙ sym (decided ∙ rw l (ap (refuse 8) (sym d)))
 
-      pub beyond-8 : f .variants ≤ v .0 → after-types 65536 bs a ≡ after-fixed 65536 bs
-      beyond-8 l = sym (decided ∙ simp (le-ltb (v .0) (fixed-at bs .variants) (omega (arith, count))))
+      pub beyond-8 : r ≡ Nowhere → after-types 65536 bs a ≡ after-fixed 65536 bs
+      beyond-8 l = sym (decided ∙ rw l refl)
 
 pub ruleset eight-laws = (fit, bad-inside, bad-8, beyond-8)
 

@@ -3,3 +3,4 @@ pub mod UnblockedLaws
 pub mod BlockedLaws
 pub mod Chain
 pub mod FixedLaws
+pub mod Unique

@@ -14,11 +14,13 @@ ghost use Rattle.head_blocks.specs.Parts.{fixed};
 ghost use Rattle.head_check.specs.Ready.{FieldsPassed, Held, Placed};
 ghost use Rattle.head_check.specs.Finding.{earlier-of, UnusedFound, TypesFound, EndsFound};
 use format::Fields;
+use format::FoundInFile;
 use format::HeaderReply;
 use format::MOST_SAMPLES;
 use format::MOST_VARIANTS;
 use format::Refusal;
 use format::VARIANTS_TO_A_BLOCK;
+use format::refusal_at;
 use head_blocks::Blocks;
 use head_blocks::Unused;
 use head_blocks::blocks_of;
@@ -36,13 +38,6 @@ use head_columns::records_end;
 use head_columns::type_place;
 use head_numbers::number_at;
 
-// Demand 1: "A refusal has a number and a place."
-fn refusal(number: u8, place: usize) -> Refusal
-    ensures { λ r. ⌜ r ≡ refusal number place ⌝ }
-{
-    Refusal { number, place }
-}
-
 // 01, What the software covers: "storage modes 0x02 and 0x10"
 fn mode_covered(mode: u8) -> bool
     ensures { λ r. ⌜ r ≡ mode-covered mode ⌝ }
@@ -54,7 +49,7 @@ fn mode_covered(mode: u8) -> bool
 }
 
 // 01: "samples N from 1 to 65,536; variants M from 1 to 16,777,216"
-fn from_1_to(most: usize, n: usize) -> bool
+pub fn from_1_to(most: usize, n: usize) -> bool
     ensures { λ r. ⌜ r ≡ from-1-to most n ⌝ }
 {
     if n < 1 {
@@ -79,10 +74,10 @@ fn check_unblocked(file: &[u8], f: Fields, end: usize) -> HeaderReply
     ensures { λ r. ⌜ header-left r ≡ summary (after-fixed variants-to-a-block (now (file .entry))) ⌝ }
 {
     if !flags_clear(file, 12, f.variants, f.form / 64 == 3) {
-        return HeaderReply::Refused(refusal(7, end - 1));
+        return HeaderReply::Refused(refusal_at(7, end - 1));
     }
     if first_record(f) + f.variants * fixed_size(f) != file.len() {
-        return HeaderReply::Refused(refusal(9, file.len()));
+        return HeaderReply::Refused(refusal_at(9, file.len()));
     }
     HeaderReply::Accepted(f)
 }
@@ -93,10 +88,10 @@ fn check_ends(file: &[u8], f: Fields, b: Blocks) -> HeaderReply
     ensures { λ r. ⌜ EndsFound (now (file .entry)) r ⌝ }
 {
     match records_end(file, f.variants, b, first_record(f)) {
-        Ends::WrongOffset(block) => HeaderReply::Refused(refusal(9, 12 + 8 * block)),
+        Ends::WrongOffset(block) => HeaderReply::Refused(refusal_at(9, 12 + 8 * block)),
         Ends::RecordsEnd(last) => {
             if last != file.len() as u64 {
-                return HeaderReply::Refused(refusal(9, file.len()));
+                return HeaderReply::Refused(refusal_at(9, file.len()));
             }
             HeaderReply::Accepted(f)
         }
@@ -126,7 +121,7 @@ fn find_unused(file: &[u8], f: Fields, b: Blocks) -> Found
 {
     let last = (f.variants - 1) / VARIANTS_TO_A_BLOCK;
     match unused_in(file, b.at + last * b.full, count_in(f.variants, last), b) {
-        Unused::At(place) => Found::Refused(refusal(7, place)),
+        Unused::At(place) => Found::Refused(refusal_at(7, place)),
         Unused::Clear => Found::Nothing,
     }
 }
@@ -136,11 +131,10 @@ fn bad_types(file: &[u8], f: Fields, b: Blocks) -> Found
     requires { ⌜ Placed (now file) f b ⌝ }
     ensures { λ r. ⌜ TypesFound (now (file .entry)) r ⌝ }
 {
-    let v = bad_type(file, f.variants, b);
-    if v.0 < f.variants {
-        return Found::Refused(refusal(8, type_place(b, v)));
+    match bad_type(file, f.variants, b) {
+        FoundInFile::At(v) => Found::Refused(refusal_at(8, type_place(b, v))),
+        FoundInFile::Nowhere => Found::Nothing,
     }
-    Found::Nothing
 }
 
 // 7, then 8, then 9, where there are blocks.
@@ -164,7 +158,7 @@ fn check_arrays(file: &[u8], f: Fields) -> HeaderReply
 {
     let end = header_end(f);
     if file.len() < end {
-        return HeaderReply::Refused(refusal(6, file.len()));
+        return HeaderReply::Refused(refusal_at(6, file.len()));
     }
     if is_unblocked(f.mode) {
         return check_unblocked(file, f, end);
@@ -178,16 +172,16 @@ fn check_fields(file: &[u8], f: Fields) -> HeaderReply
     ensures { λ r. ⌜ header-left r ≡ header-call variants-to-a-block (now (file .entry)) ⌝ }
 {
     if !mode_covered(f.mode) {
-        return HeaderReply::Refused(refusal(3, 2));
+        return HeaderReply::Refused(refusal_at(3, 2));
     }
     if !from_1_to(MOST_VARIANTS, f.variants) {
-        return HeaderReply::Refused(refusal(4, 3));
+        return HeaderReply::Refused(refusal_at(4, 3));
     }
     if !from_1_to(MOST_SAMPLES, f.samples) {
-        return HeaderReply::Refused(refusal(4, 7));
+        return HeaderReply::Refused(refusal_at(4, 7));
     }
     if !form_allowed(f.mode, f.form) {
-        return HeaderReply::Refused(refusal(5, 11));
+        return HeaderReply::Refused(refusal_at(5, 11));
     }
     check_arrays(file, f)
 }
@@ -197,10 +191,10 @@ pub fn check(file: &[u8]) -> HeaderReply
     ensures { λ r. ⌜ header-left r ≡ header-call variants-to-a-block (now (file .entry)) ⌝ }
 {
     if file.len() < 12 {
-        return HeaderReply::Refused(refusal(1, file.len()));
+        return HeaderReply::Refused(refusal_at(1, file.len()));
     }
     if number_at(file, 0, 2) != 0x1b6c {
-        return HeaderReply::Refused(refusal(2, 0));
+        return HeaderReply::Refused(refusal_at(2, 0));
     }
     check_fields(file, fields_at(file))
 }

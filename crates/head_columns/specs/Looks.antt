@@ -1,10 +1,12 @@
 -- What the looks at the arrays of every block find: the first type that is not allowed; the first offset that is wrong, or where the records end.
 -- Both are for any arrays that the file may hold. Assumes nothing.
 use mathlib.Core.Path.{_≡_}
-use Prim.Native.Nat.{ℕ, _+_, _-_, _/_}
+use Prim.Native.Nat.{ℕ, _+_, _-_, _/_, _<_}
 use mathlib.Core.List.{List}
 use lib.Dec.{ltb}
 use Rattle.format.specs.declared.FileVariant.{FileVariant}
+use Rattle.format.specs.declared.FoundInFile.{FoundInFile}
+use Rattle.format.specs.declared.FoundInFile.the-variants.{At}
 use Rattle.format.specs.Base.{pick}
 use Rattle.format.specs.Limits.{variants-to-a-block}
 use Rattle.format.specs.Variant.{file-variant}
@@ -16,9 +18,10 @@ use Rattle.head_columns.specs.declared.Ends.{Ends}
 use Rattle.head_columns.specs.declared.Ends.the-variants.{WrongOffset, RecordsEnd}
 
 -- 8
-abbrev pub FirstBad : List ℕ → ℕ → Blocks → FileVariant → Type 0
-FirstBad bs m b v =
-    (f : Fixed) (a : Arrays) (records : List ℕ) → Arranged bs m b f a records → v ≡ bad-type variants-to-a-block (file-variant 0) (a .columns .types)
+pub record FirstBad (bs : List ℕ) (m : ℕ) (b : Blocks) (r : FoundInFile) : Type 0 where
+  pub is : (f : Fixed) (a : Arrays) (records : List ℕ) → Arranged bs m b f a records → r ≡ bad-type variants-to-a-block (file-variant 0) (a .columns .types)
+  -- it is a variant of the file
+  pub below : (v : FileVariant) → r ≡ At v → v .0 < m
 
 -- 9, with the first record at `first`
 abbrev pub ending : ℕ → ℕ → ℕ → Ends

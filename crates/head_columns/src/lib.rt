@@ -10,6 +10,8 @@ use base_variants::block_of;
 use base_variants::in_block;
 use base_variants::in_file;
 use format::FileVariant;
+use format::FoundInBlock;
+use format::FoundInFile;
 use format::VARIANTS_TO_A_BLOCK;
 use head_blocks::Blocks;
 use head_numbers::number_at;
@@ -42,8 +44,8 @@ pub fn type_place(b: Blocks, v: FileVariant) -> usize
     at + i.0
 }
 
-// 01, Replies: 8, "type not allowed". The first variant of the file whose type is not allowed; past the last if there is none.
-pub fn bad_type(file: &[u8], m: usize, b: Blocks) -> FileVariant
+// 01, Replies: 8, "type not allowed". The first variant of the file whose type is not allowed.
+pub fn bad_type(file: &[u8], m: usize, b: Blocks) -> FoundInFile
     requires { ⌜ BlocksFit (now file) m b ⌝ }
     ensures { λ r. ⌜ FirstBad (now (file .entry)) m b r ⌝ }
 {
@@ -54,13 +56,12 @@ pub fn bad_type(file: &[u8], m: usize, b: Blocks) -> FileVariant
     let mut j: usize = 0;
     while j < blocks {
         let n = count_in(m, j);
-        let x = bad_in_block(file, at + j * full, n, half);
-        if x.0 < n {
-            return in_file(j, x);
+        match bad_in_block(file, at + j * full, n, half) {
+            FoundInBlock::At(i) => return FoundInFile::At(in_file(j, i)),
+            FoundInBlock::Nowhere => j = j + 1,
         }
-        j = j + 1;
     }
-    FileVariant(m)
+    FoundInFile::Nowhere
 }
 
 // Where the records of a file end, or the number of the first block whose offset is not where its first record starts.

@@ -9,7 +9,7 @@ use lib.ListN.{length, take, drop, getD}
 use lib.Seq.{getD-take, take-take}
 use native.Mathlib.Omega.{arith}
 use Rattle.format.specs.declared.FileVariant.{FileVariant}
-use Rattle.format.specs.Variant.{in-file, nearest, anchor}
+use Rattle.format.specs.Variant.{in-file, last-standing, anchor}
 use Rattle.format.specs.Layout.{Fixed, form-of, Arrays, block-bytes, Layout, fixed-of, arrays-of, in-parts, layout-bytes, unblocked, LayoutObeys}
 use Rattle.format.specs.Header.{block-place}
 use Rattle.format.proofs.Rules.{below-take, below-drop}
@@ -23,8 +23,8 @@ use Rattle.head_index.proofs.ByIndex.{digits-at-are}
 use Rattle.head_index.proofs.PlaceLaws.{known, block-at, TwoNumbers, two-numbers, column-length}
 
 -- only the first i types matter
-nearest-first : (types : List ℕ) (n i : ℕ) → i ≤ n → nearest (take n types) i ≡ nearest types i
-unfolding nearest
+nearest-first : (types : List ℕ) (n i : ℕ) → i ≤ n → last-standing (take n types) i ≡ last-standing types i
+unfolding last-standing
 nearest-first types n zero h = refl
 nearest-first types n (suc i) h =
     let e : getD (take n types) i 0 ≡ getD types i 0 = getD-take n types i 0 (omega arith) in
@@ -48,7 +48,7 @@ anchor-at-is K v f a records h lt =
     ∙ digits-at-are (form-of f .type-bits) 0 i types _ (below-take _ n left (below-drop _ start (a .columns .types) (h .all-fit .types-small)))
     (omega (arith, c .counted))
     ∙ take-take i n left (omega (arith, c .counted)) in
-    ap (in-file K (v .0 / K)) (ap (λ (z : List ℕ). nearest z i) d ∙ nearest-first left i i (omega arith))
+    ap (in-file K (v .0 / K)) (ap (λ (z : List ℕ). last-standing z i) d ∙ nearest-first left i i (omega arith))
 
 -- by the index of a layout
 pub stored-anchor : (K : ℕ) (index held : List ℕ) (l : Layout) → zero < K → Stored K index held l → unblocked (l .mode) ≡ false → (v : FileVariant)

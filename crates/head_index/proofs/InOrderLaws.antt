@@ -73,9 +73,9 @@ module _ (K : ℕ) (l : Layout) (p : zero < K) (h : LayoutObeys K l) where
       → Lent (suc v) (next-anchor (variant-leans l (file-variant v)) lent (body-categories (l .samples) lent body))
   lent-next v lent body left y m i e t =
       by-test (λ (row : List ℕ). read-over K l [] (anchor K (l .types) (file-variant (suc v))) ≡ ok row []) (variant-leans l (file-variant v))
-      (λ s. ap (read-over K l []) (anchor-after-leaning K (l .types) p (h .types) v m s t) ∙ i s)
+      (λ s. ap (read-over K l []) (anchor-after-leaning K (l .types) p (h .types) (file-variant v) m t s) ∙ i s)
       (λ s.
-      ap (read-over K l []) (anchor-after-standing K (l .types) p (h .types) v m s t)
+      ap (read-over K l []) (anchor-after-standing K (l .types) p (h .types) (file-variant v) m t s)
       ∙ stands-alike v lent y s
       ∙ ap (map-out (body-categories (l .samples) lent)) e
       ∙ ap (ok (body-categories (l .samples) lent body)) (read-leans v lent body left y e .1))

@@ -12,7 +12,7 @@ use Rattle.format.specs.Body.{Body, read-body, body-categories, body-leans}
 use Rattle.format.specs.Variant.{file-variant}
 use Rattle.format.specs.Layout.{sum, first-record, Layout, fixed-of, record-start, LayoutObeys}
 use Rattle.format.specs.File.{next-anchor, read-records, read-all, type-of, variant-leans}
-use Rattle.format.proofs.Rules.{never-both, Holds}
+use Rattle.format.proofs.Rules.{split, never-both, Holds}
 use Rattle.format.proofs.BodyLaws.{IsBody, body-as-written, kept-leaning}
 use Rattle.format.proofs.RowLaws.{body-row, anchor-unused, row-anchor-unused}
 use Rattle.head_index.proofs.InOrderLaws.{read-leans}
@@ -83,24 +83,33 @@ turn-check K l v lent h m =
 -- ---- the row that a loop keeps
 
 module _ (K : ℕ) (l : Layout) (p : zero < K) (h : LayoutObeys K l) where
-  -- the first record leans on nothing, whatever the row holds
-  pub first-over-any : (lent : List ℕ) → Bytes (getD (l .bodies) 0 []) → zero < length (l .bodies) → variant-leans l (file-variant 0) ≡ false
-      → left-to-check K l 0 lent ≡ left-to-check K l 0 []
-  first-over-any lent y m s =
-      turn-check K l 0 lent h m
-      ∙ ap (then-check K l 0 lent)
-      (anchor-unused (record-start K l (file-variant 1)) (l .samples) lent [] (type-of l (file-variant 0)) (getD (l .bodies) 0 []) s)
-      ∙ go (record-over K l 0 []) refl
-      ∙ sym (turn-check K l 0 [] h m)
+  -- a record that leans on none is read alike over every row, and so is all that follows it
+  pub over-any : (v : ℕ) (lent other : List ℕ) → Bytes (getD (l .bodies) v []) → v < length (l .bodies) → variant-leans l (file-variant v) ≡ false
+      → left-to-check K l v lent ≡ left-to-check K l v other
+  over-any v lent other y m s =
+      turn-check K l v lent h m
+      ∙ ap (then-check K l v lent)
+      (anchor-unused (record-start K l (file-variant (suc v))) (l .samples) lent other (type-of l (file-variant v)) (getD (l .bodies) v []) s)
+      ∙ go (record-over K l v other) refl
+      ∙ sym (turn-check K l v other h m)
     where
-      go : (out : Out Body) → record-over K l 0 [] ≡ out → then-check K l 0 lent out ≡ then-check K l 0 [] out
+      go : (out : Out Body) → record-over K l v other ≡ out → then-check K l v lent out ≡ then-check K l v other out
       go (refused why) e = refl
       go (ok body left) e =
-          let stands : body-leans body ≡ false = read-leans K l p h 0 [] body left y e .0 ∙ s in
-          ap (left-to-check K l 1)
+          let stands : body-leans body ≡ false = read-leans K l p h v other body left y e .0 ∙ s in
+          ap (left-to-check K l (suc v))
           (ap (λ (b : Bool). pick b lent (body-categories (l .samples) lent body)) s
-          ∙ row-anchor-unused (l .samples) lent [] body stands
-          ∙ sym (ap (λ (b : Bool). pick b [] (body-categories (l .samples) [] body)) s))
+          ∙ row-anchor-unused (l .samples) lent other body stands
+          ∙ sym (ap (λ (b : Bool). pick b other (body-categories (l .samples) other body)) s))
+
+  -- what follows variant v does not look at the row where the next record leans on none, or there is none
+  pub next-any : (v : ℕ) (lent other : List ℕ) → Bytes (getD (l .bodies) (suc v) []) → v < length (l .bodies)
+      → (suc v < length (l .bodies) → variant-leans l (file-variant (suc v)) ≡ false) → left-to-check K l (suc v) lent ≡ left-to-check K l (suc v) other
+  next-any v lent other y m s =
+      split (suc (suc v)) (length (l .bodies)) (λ g. over-any (suc v) lent other y g (s g))
+      (λ g.
+      let e : suc v ≡ length (l .bodies) = omega arith in
+      rw e (none-left K l lent h ∙ sym (none-left K l other h)))
 
   -- a record that stands has N categories
   pub row-count : (v : ℕ) (lent : List ℕ) (body : Body) (left : List ℕ) → Bytes (getD (l .bodies) v []) → record-over K l v lent ≡ ok body left

@@ -1,73 +1,28 @@
 -- The header check by index, for every list of bytes: refusals 1 to 6. Each law is one test of the code, and what the definition then gives.
 -- Assumes nothing.
-use mathlib.Core.Path.{_≡_, refl, ap, _∙_, subst}
+use mathlib.Core.Path.{_≡_, ap, _∙_, subst}
 use Prim.Native.Nat.{ℕ, zero, suc, _+_, _-_, _*_, _/_, _%_, _≤_, _<_, zero-le, min}
-use native.Mathlib.Nat.{zero-mul, suc-mul, mul-zero, mul-suc, div-eq-of-lt, mod-eq-of-lt, div-eq-sub-div, mod-eq-sub-mod, min-eq-left, min-eq-right, zero-div}
+use native.Mathlib.Nat.{zero-mul, suc-mul, mul-zero, div-eq-of-lt, mod-eq-of-lt, div-eq-sub-div, mod-eq-sub-mod, min-eq-left, min-eq-right, zero-div}
 use native.Mathlib.Nat.{zero-mod}
 use mathlib.Core.Bool.{true, false}
-use mathlib.Core.List.{List, [], _∷_, _++_, map}
-use lib.ListN.{length, drop, length-append, length-drop}
-use lib.Seq.{drop-drop}
-use lib.Dec.{lit<}
+use mathlib.Core.List.{List, _++_, map}
+use lib.ListN.{length, drop, length-drop}
 use native.Mathlib.Omega.{arith}
 use borrow.Author.Tests.{lt-leb}
 use Rattle.format.specs.Base.{Bytes, ok, refuse, numbered}
-use Rattle.format.specs.Numbers.{read-number, read-numbers}
 use Rattle.format.specs.Packed.{one, more, packed-size}
-use Rattle.format.specs.Limits.{most-samples, most-variants}
-use Rattle.format.specs.Layout.{Fixed, fixed-bytes, unblocked, Form, form-of, flag-count, sum, block-count, cut, block-size, blocked-size, arrays-bytes}
-use Rattle.format.specs.Layout.{arrays-size, header-end, Layout, fixed-of, arrays-of, layout-bytes, FixedObeys, LayoutObeys}
+use Rattle.format.specs.Layout.{Fixed, fixed-bytes, unblocked, Form, form-of, flag-count, sum, block-count, cut, block-size, blocked-size}
+use Rattle.format.specs.Layout.{arrays-size, header-end, FixedObeys}
 use Rattle.format.specs.Header.{read-fixed, need-fixed, read-after-fixed, read-header, read-layout}
 use Rattle.format.proofs.Rules.{Holds, split}
 use Rattle.format.proofs.ColumnsLaws.{flag-count-zero}
 use Rattle.format.proofs.BlocksLaws.{blocks-hold-all}
-use Rattle.format.proofs.ArraysLaws.{fixed-length, fixed-read-back, AreFixed, fixed-as-written, fixed-pass, fixed-then, header-apart}
-use Rattle.format.proofs.OffsetsLaws.{from-1-to-most, mode-byte}
+use Rattle.format.proofs.ArraysLaws.{AreFixed, fixed-as-written, fixed-pass, fixed-then}
 unfoldable pub use Rattle.head_index.specs.NumbersAt.{fixed-at}
 unfoldable pub use Rattle.head_index.specs.Rules.{after-fixed}
-use Rattle.head_index.specs.NumbersAt.{number-at, numbers-at}
-use Rattle.head_index.specs.Stored.{Stored}
-use Rattle.head_index.proofs.StoredLaws.{stored-layout}
-
--- ---- numbers that are there, or not
-
--- a number whose bytes are there is read
-pub number-there : (end w : ℕ) (bs : List ℕ) → w ≤ length bs → read-number end w bs ≡ ok (number-at w bs) (drop w bs)
-unfolding read-number number-at
-number-there end zero bs h = refl
-number-there end (suc w) [] h = absurd (omega arith)
-number-there end (suc w) (b ∷ bs) h = simp (number-there end w bs (omega arith))
-
--- one whose bytes are not all there is refused
-pub number-short : (end w : ℕ) (bs : List ℕ) → length bs < w → read-number end w bs ≡ refuse 12 end
-unfolding read-number
-number-short end zero bs h = absurd (omega arith)
-number-short end (suc w) [] h = refl
-number-short end (suc w) (b ∷ bs) h = simp (number-short end w bs (omega arith))
-
--- a row whose bytes are there is read
-pub numbers-there : (end w count : ℕ) (bs : List ℕ) → w * count ≤ length bs → read-numbers end w count bs ≡ ok (numbers-at w count bs) (drop (w * count) bs)
-unfolding read-numbers numbers-at
-numbers-there end w zero bs h = rw mul-zero refl
-numbers-there end w (suc count) bs h =
-    let e : w * suc count ≡ w + w * count = mul-suc w count ∙ omega arith in
-    rw e (simp (
-      number-there end w bs (omega (arith, mul-suc w count)),
-      numbers-there end w count (drop w bs)
-          (rw length-drop (omega (arith, mul-suc w count))),
-      drop-drop,
-    ))
+use Rattle.head_index.proofs.ByIndex.{number-there, number-there-at, number-short, number-short-at}
 
 -- ---- the fixed fields
-
--- a field that is there
-later-there : (end w k : ℕ) (bs : List ℕ) → k + w ≤ length bs → read-number end w (drop k bs) ≡ ok (number-at w (drop k bs)) (drop (k + w) bs)
-later-there end w k bs h =
-    number-there end w (drop k bs) (rw length-drop (omega arith)) ∙ ap (ok (number-at w (drop k bs))) (drop-drop w k bs)
-
--- a field that is not all there
-later-short : (end w k : ℕ) (bs : List ℕ) → length bs < k + w → k ≤ length bs → read-number end w (drop k bs) ≡ refuse 12 end
-later-short end w k bs h g = number-short end w (drop k bs) (rw length-drop (omega arith))
 
 -- twelve bytes are read as the fields by index
 pub fixed-there : (end : ℕ) (bs : List ℕ) → 12 ≤ length bs → read-fixed end bs ≡ ok (fixed-at bs) (drop 12 bs)
@@ -75,10 +30,10 @@ unfolding read-fixed fixed-at
 fixed-there end bs h =
     simp (
       number-there end 2 bs (omega arith),
-      later-there end 1 2 bs (omega arith),
-      later-there end 4 3 bs (omega arith),
-      later-there end 4 7 bs (omega arith),
-      later-there end 1 11 bs (omega arith),
+      number-there-at end 1 2 bs (omega arith),
+      number-there-at end 4 3 bs (omega arith),
+      number-there-at end 4 7 bs (omega arith),
+      number-there-at end 1 11 bs (omega arith),
     )
 
 -- fewer than twelve bytes are refused
@@ -89,10 +44,10 @@ fixed-short end bs h =
     split 3 (length bs) (λ b.
     split 7 (length bs) (λ c.
     split 11 (length bs) (λ d.
-    simp (number-there end 2 bs a, later-there end 1 2 bs b, later-there end 4 3 bs c, later-there end 4 7 bs d, later-short end 1 11 bs h d))
-    (λ d. simp (number-there end 2 bs a, later-there end 1 2 bs b, later-there end 4 3 bs c, later-short end 4 7 bs d c)))
-    (λ c. simp (number-there end 2 bs a, later-there end 1 2 bs b, later-short end 4 3 bs c b)))
-    (λ b. simp (number-there end 2 bs a, later-short end 1 2 bs b a)))
+    simp (number-there end 2 bs a, number-there-at end 1 2 bs b, number-there-at end 4 3 bs c, number-there-at end 4 7 bs d, number-short-at end 1 11 bs h d))
+    (λ d. simp (number-there end 2 bs a, number-there-at end 1 2 bs b, number-there-at end 4 3 bs c, number-short-at end 4 7 bs d c)))
+    (λ c. simp (number-there end 2 bs a, number-there-at end 1 2 bs b, number-short-at end 4 3 bs c b)))
+    (λ b. simp (number-there end 2 bs a, number-short-at end 1 2 bs b a)))
     (λ a. simp (number-short end 2 bs a))
 
 -- the first twelve bytes are those of the fields
@@ -127,24 +82,6 @@ form-byte-at bs y h =
 -- fields that obey pass
 pub passed-2-to-5 : (K : ℕ) (bs : List ℕ) → 12 ≤ length bs → FixedObeys (fixed-at bs) → read-layout K bs ≡ after-fixed K bs
 passed-2-to-5 K bs h g = refusals-2-to-5 K bs h ∙ fixed-pass (fixed-at bs) (after-fixed K bs) g
-
--- the fields in an index are the layout's
-pub stored-fixed : (K : ℕ) (index held : List ℕ) (l : Layout) → Stored K index held l → fixed-at index ≡ fixed-of l
-stored-fixed K index held l s =
-    let o : FixedObeys (fixed-of l) = s .obeys .fixed in
-    let left : List ℕ = arrays-bytes K (fixed-of l) (arrays-of K l) ++ s .after in
-    let is : index ≡ fixed-bytes (fixed-of l) ++ left = s .index-is ∙ header-apart K (fixed-of l) (arrays-of K l) (s .after) in
-    let a : read-fixed 0 (fixed-bytes (fixed-of l) ++ left) ≡ ok (fixed-of l) left
-    = fixed-read-back 0 (fixed-of l) left (lit< tt) (mode-byte (l .mode) (o .mode))
-    (omega (arith, from-1-to-most most-variants (length (l .bodies)) (o .variants)))
-    (omega (arith, from-1-to-most most-samples (l .samples) (o .samples))) (o .form-byte) in
-    let b : read-fixed 0 index ≡ ok (fixed-at index) (drop 12 index)
-    = fixed-there 0 index (omega (arith, ap length is, length-append (fixed-bytes (fixed-of l)) left, fixed-length (fixed-of l))) in
-    cc
-
--- so are those in the bytes of a layout that obeys
-pub fixed-at-layout : (K : ℕ) (l : Layout) → zero < K → LayoutObeys K l → fixed-at (layout-bytes K l) ≡ fixed-of l
-fixed-at-layout K l p h = stored-fixed K (layout-bytes K l) (layout-bytes K l) l (stored-layout K l p h)
 
 -- ---- how long the arrays are: full blocks and one more
 

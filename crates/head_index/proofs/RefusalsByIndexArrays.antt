@@ -1,7 +1,7 @@
 -- The header check by index: refusal 7, the unused bits of the arrays in stored order, and what is known of a file that has passed 1 to 7.
 -- Assumes nothing.
 use mathlib.Core.Path.{_≡_, refl, sym, ap, _∙_}
-use Prim.Native.Nat.{ℕ, zero, suc, _+_, _-_, _*_, _≤_, _<_}
+use Prim.Native.Nat.{ℕ, zero, _+_, _-_, _*_, _≤_, _<_}
 use mathlib.Core.Bool.{Bool, true, false}
 use mathlib.Core.List.{List, [], _∷_, _++_, map}
 use lib.ListN.{length, drop, length-drop}
@@ -24,25 +24,9 @@ pub use Rattle.head_index.specs.Known.{Passed}
 use Rattle.head_index.specs.NumbersAt.{numbers-at, digits-at, unused-bits, fixed-at}
 use Rattle.head_index.specs.Rules.{after-fixed, after-types}
 use Rattle.head_index.specs.Known.{Known}
-use Rattle.head_index.proofs.UnusedBits.{packed-amiss, packed-there}
-use Rattle.head_index.proofs.RefusalsByIndex.{numbers-there, fixed-at-written}
-
--- ---- arrays at a place in the file
-
--- read, with no unused bits set
-packed-there-at : (bits : Bits) (n place : ℕ) (bs : List ℕ) → Bytes bs → place + packed-size bits n ≤ length bs
-    → eqb (unused-bits bits n (drop place bs)) 0 ≡ true
-    → read-packed (length bs) bits n (drop place bs) ≡ ok (digits-at bits (drop place bs) 0 n) (drop (place + packed-size bits n) bs)
-packed-there-at bits n place bs y h t =
-    packed-there (length bs) bits n (drop place bs) (below-drop 256 place bs y) (rw length-drop (omega arith)) t
-    ∙ ap (ok (digits-at bits (drop place bs) 0 n)) (drop-drop (packed-size bits n) place bs)
-
--- refused at its last byte, with some set
-packed-amiss-at : (bits : Bits) (n place : ℕ) (bs : List ℕ) → place + packed-size bits n ≤ length bs → eqb (unused-bits bits n (drop place bs)) 0 ≡ false
-    → read-packed (length bs) bits n (drop place bs) ≡ refuse 18 (place + packed-size bits n - 1)
-packed-amiss-at bits n place bs h t =
-    let e : length bs - suc (length (drop place bs) - packed-size bits n) ≡ place + packed-size bits n - 1 = rw length-drop (omega arith) in
-    packed-amiss (length bs) bits n (drop place bs) (rw length-drop (omega arith)) t ∙ ap (refuse 18) e
+use Rattle.head_index.proofs.ByIndex.{numbers-there}
+use Rattle.head_index.proofs.UnusedBits.{packed-amiss-at, packed-there-at}
+use Rattle.head_index.proofs.RefusalsByIndex.{fixed-at-written}
 
 -- ---- the blocks
 
@@ -86,9 +70,9 @@ unused-blocks form place (n ∷ ns) bs y h =
     ∙ unused-blocks form (place + (p + (w + q))) ns bs y (omega arith)))
     (λ t₂.
     let c : read-packed (length bs) one k (drop (place + (p + w)) bs) ≡ refuse 18 (place + (p + (w + q)) - 1)
-    = packed-amiss-at one k (place + (p + w)) bs (omega arith) t₂ ∙ ap (λ (z : ℕ). refuse 18 (z - 1)) d in
+    = packed-amiss-at one k (place + (p + w)) bs y (omega arith) t₂ ∙ ap (λ (z : ℕ). refuse 18 (z - 1)) d in
     simp (a, b, c)))
-    (λ t₁. simp (packed-amiss-at bits n place bs (omega arith) t₁))
+    (λ t₁. simp (packed-amiss-at bits n place bs y (omega arith) t₁))
 
 -- all arrays of a file with blocks
 unused-blocked : (K : ℕ) (f : Fixed) (bs : List ℕ) → Bytes bs → 12 + blocked-size K f ≤ length bs
@@ -118,7 +102,7 @@ unused-arrays-decide K f bs y h = go (unblocked (f .mode)) h
     go true h =
         outcome-map _ (read-packed (length bs) one k (drop 12 bs))
         ∙ by-test (λ (z : Out (Unit {0})). outcome-7 (read-packed (length bs) one k (drop 12 bs)) ≡ z) (eqb (unused-bits one k (drop 12 bs)) 0)
-        (λ t. simp (packed-there-at one k 12 bs y h t)) (λ t. simp (packed-amiss-at one k 12 bs h t))
+        (λ t. simp (packed-there-at one k 12 bs y h t)) (λ t. simp (packed-amiss-at one k 12 bs y h t))
     go false h = unused-blocked K f bs y h
 
 -- ---- refusal 7

@@ -10,6 +10,7 @@ use lib.Dec.{eqb, ltb}
 use native.Mathlib.Omega.{arith}
 use borrow.Author.Tests.{lt-ltb, le-ltb}
 use Rattle.format.specs.declared.FileVariant.{FileVariant}
+use Rattle.format.specs.declared.FoundInFile.the-variants.{At}
 use Rattle.format.specs.Base.{pick, Out, ok, refuse, map-out, numbered, refused}
 use Rattle.format.specs.Numbers.{read-bytes}
 use Rattle.format.specs.Variant.{file-variant, next-variant, in-block}
@@ -18,8 +19,8 @@ use Rattle.format.specs.Layout.{type-allowed, TypesAllowed}
 use Rattle.format.specs.Header.{Header, header-with, type-place, need-types, need-offsets, split-bodies, layout-of, read-bodies, read-data}
 use Rattle.format.proofs.Rules.{split}
 use Rattle.format.proofs.ColumnsLaws.{no-element}
-use Rattle.format.proofs.OffsetsLaws.{types-pass, starts-count, lengths-counted, types-counted}
-unfoldable pub use Rattle.head_index.specs.Rules.{bad-type, starts-of, wrong-offset, cut-bodies, layout-at, after-offsets, after-types}
+use Rattle.format.proofs.OffsetsLaws.{types-pass, starts-count, lengths-counted}
+unfoldable pub use Rattle.head_index.specs.Rules.{bad-type, refuse-found, starts-of, wrong-offset, cut-bodies, layout-at, after-offsets, after-types}
 use Rattle.head_index.specs.NumbersAt.{fixed-at}
 use Rattle.head_index.specs.Rules.{after-fixed}
 use Rattle.head_index.specs.Known.{Passed}
@@ -28,19 +29,16 @@ use Rattle.head_index.specs.Known.{Passed}
 
 -- the rule by that type
 pub types-by-index : {A : Type 0} (K : ℕ) (f : Fixed) (v : FileVariant) (types : List ℕ) (next : Out A)
-    → need-types K f v types next ≡ pick (ltb (bad-type K v types .0) (v .0 + length types)) (refuse 8 (type-place K f (bad-type K v types))) next
+    → need-types K f v types next ≡ refuse-found K f (bad-type K v types) next
 unfolding need-types bad-type
-types-by-index K f v [] next = simp (le-ltb (v .0) (v .0 + 0) (omega arith))
+types-by-index K f v [] next = refl
 types-by-index K f v (type ∷ types) next = go (type-allowed (in-block K v) type) (types-by-index K f (next-variant v) types next)
   where
-    later : FileVariant
-    later = bad-type K (next-variant v) types
-
-    go : (t : Bool) → need-types K f (next-variant v) types next ≡ pick (ltb (later .0) (suc (v .0) + length types)) (refuse 8 (type-place K f later)) next
+    go : (t : Bool) → need-types K f (next-variant v) types next ≡ refuse-found K f (bad-type K (next-variant v) types) next
         → pick t (need-types K f (next-variant v) types next) (refuse 8 (type-place K f v))
-        ≡ pick (ltb (pick t later v .0) (v .0 + suc (length types))) (refuse 8 (type-place K f (pick t later v))) next
-    go true h = let e : suc (v .0) + length types ≡ v .0 + suc (length types) = omega arith in rw e at h
-    go false h = simp (lt-ltb (v .0) (v .0 + suc (length types)) (omega arith))
+        ≡ refuse-found K f (pick t (bad-type K (next-variant v) types) (At v)) next
+    go true h = h
+    go false h = refl
 
 -- ---- 9: the first offset that is wrong
 
@@ -144,12 +142,8 @@ module _ (end : ℕ) (h : Header) (bs : List ℕ) where
 
 module _ (K : ℕ) (bs : List ℕ) (a : Arrays) (h : Passed K bs a) where
   -- 8: by the first type that is not allowed
-  pub refusal-8 : after-fixed K bs
-      ≡ pick (ltb (bad-type K (file-variant 0) (a .columns .types) .0) (fixed-at bs .variants))
-      (refuse 8 (type-place K (fixed-at bs) (bad-type K (file-variant 0) (a .columns .types)))) (after-types K bs a)
-  refusal-8 =
-      let e : 0 + length (a .columns .types) ≡ fixed-at bs .variants = omega (arith, types-counted (fixed-at bs) (a .columns) (h .columns)) in
-      h .goes-on ∙ rw e at (types-by-index K (fixed-at bs) (file-variant 0) (a .columns .types) (after-types K bs a))
+  pub refusal-8 : after-fixed K bs ≡ refuse-found K (fixed-at bs) (bad-type K (file-variant 0) (a .columns .types)) (after-types K bs a)
+  refusal-8 = h .goes-on ∙ types-by-index K (fixed-at bs) (file-variant 0) (a .columns .types) (after-types K bs a)
 
   -- 9: by the first offset that is wrong
   pub refusal-9-offset : after-types K bs a

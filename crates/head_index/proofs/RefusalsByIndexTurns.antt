@@ -3,17 +3,19 @@
 use mathlib.Core.Path.{_≡_, refl, sym, ap, _∙_}
 use Prim.Native.Nat.{ℕ, zero, suc, _+_, _-_, _*_, _/_, _%_, _≤_, _<_, min}
 use native.Mathlib.Nat.{add-zero, zero-add, zero-mul, suc-mul, mul-add-mod-self-right, mod-eq-of-lt, min-eq-left, min-le-left, min-le-right, div-lt-iff-lt-mul}
-use native.Mathlib.Nat.{sub-zero, sub-self}
+use native.Mathlib.Nat.{sub-zero}
 use mathlib.Core.Bool.{Bool, true, false}
 use mathlib.Core.List.{List, [], _∷_, _++_, append-assoc}
 use lib.ListN.{length, take, drop, getD, take-append-drop}
 use lib.Seq.{drop-drop, take-length, drop-cons, take-add}
-use lib.Dec.{eqb, ltb}
+use lib.Dec.{eqb}
 use native.Mathlib.Omega.{arith}
-use borrow.Author.Tests.{le-ltb, lt-ltb}
 use Rattle.format.specs.declared.BlockVariant.{BlockVariant}
-use Rattle.format.specs.Base.{pick, ok}
-use Rattle.format.specs.Variant.{file-variant, block-variant, in-file}
+use Rattle.format.specs.declared.FoundInBlock.{FoundInBlock}
+use Rattle.format.specs.declared.FoundInBlock.the-variants.{At}
+use Rattle.format.specs.declared.FoundInFile.the-variants as in-file-as
+use Rattle.format.specs.Base.{pick}
+use Rattle.format.specs.Variant.{file-variant, block-variant}
 use Rattle.format.specs.Layout.{Fixed, unblocked, form-of, Arrays, sum, block-count, cut, block-bytes, block-size, first-record, in-parts, type-allowed}
 use Rattle.format.specs.Header.{block-place}
 use Rattle.format.proofs.Rules.{split, below-take, below-drop}
@@ -22,7 +24,7 @@ use Rattle.format.proofs.OffsetsLaws.{sum-append}
 unfoldable pub use Rattle.head_index.specs.Rules.{bad-in-block}
 use Rattle.head_index.specs.NumbersAt.{numbers-at, digits-at}
 use Rattle.head_index.specs.VariantsAt.{block-variants, lengths-place}
-use Rattle.head_index.specs.Rules.{need-unused, unused-in, unused-arrays, bad-type, starts-of, wrong-offset}
+use Rattle.head_index.specs.Rules.{need-unused, unused-in, unused-arrays, bad-type, found-or, starts-of, wrong-offset}
 use Rattle.head_index.specs.Known.{Known}
 use Rattle.head_index.proofs.ByIndex.{numbers-at-are, digits-at-are}
 use Rattle.head_index.proofs.PlaceLaws.{block-there, block-at, column-length, lengths-found}
@@ -94,50 +96,52 @@ turn-7 K j f bs p e lt =
     = omega (arith, block-there K j (block-count K f) (f .variants) lt (blocks-hold-all K f p e)) in
     rw q (ap (need-unused (form-of f) (block-place K f j) (min K (f .variants - j * K)) bs) (next-block K j f bs p e))
 
--- before the first block, and past the last
+-- before the first block
 pub first-7 : (K : ℕ) (f : Fixed) (bs : List ℕ) → unblocked (f .mode) ≡ false
     → unused-arrays K f bs ≡ unused-in (form-of f) (block-place K f 0) (cut K (block-count K f - 0) (f .variants - 0 * K)) bs
 unfolding unused-arrays block-place
 first-7 K f bs e = simp (e, zero-mul, sub-zero, add-zero)
 
--- past the last block nothing is left
-pub last-7 : (K : ℕ) (f : Fixed) (bs : List ℕ)
-    → unused-in (form-of f) (block-place K f (block-count K f)) (cut K (block-count K f - block-count K f) (f .variants - block-count K f * K)) bs ≡ ok tt []
-unfolding unused-in cut
-last-7 K f bs = rw sub-self refl
-
 -- ---- rule 8: the types of one block
+
+-- what is found is one of them
+pub found-below : (i : BlockVariant) (types : List ℕ) {x : BlockVariant} → At x ≡ bad-in-block i types → x .0 < i .0 + length types
+unfolding bad-in-block
+found-below i [] e = absurd (let z : _≡_ {A = ℕ} 0 1 = cc in omega arith)
+found-below i (type ∷ types) {x} e = go (type-allowed i type) (λ q. found-below (block-variant (suc (i .0))) types q) e
+  where
+    go : (t : Bool) → (At x ≡ bad-in-block (block-variant (suc (i .0))) types → x .0 < suc (i .0) + length types)
+        → At x ≡ pick t (bad-in-block (block-variant (suc (i .0))) types) (At i) → x .0 < i .0 + suc (length types)
+    go true h q = omega (arith, h q)
+    go false h q = let z : x ≡ i = cc in rw z (omega arith)
 
 -- of the types of block j from number i on, with what follows them
 bad-block : (K j i : ℕ) (types rest : List ℕ) → i + length types ≤ K
     → bad-type K (file-variant (j * K + i)) (types ++ rest)
-    ≡ pick (ltb (bad-in-block (block-variant i) types .0) (i + length types)) (in-file K j (bad-in-block (block-variant i) types))
-    (bad-type K (file-variant (j * K + (i + length types))) rest)
+    ≡ found-or K j (bad-in-block (block-variant i) types) (bad-type K (file-variant (j * K + (i + length types))) rest)
 unfolding bad-type bad-in-block
-bad-block K j i [] rest l = simp (add-zero, le-ltb i i (omega arith))
+bad-block K j i [] rest l = rw add-zero refl
 bad-block K j i (type ∷ types) rest l =
     let m : (j * K + i) % K ≡ i = mul-add-mod-self-right j K i ∙ mod-eq-of-lt (omega arith) in
     let s : j * K + suc i ≡ suc (j * K + i) = omega arith in
     let e : i + suc (length types) ≡ suc i + length types = omega arith in
     rw (m, e) (go (type-allowed (block-variant i) type) (rw s at (bad-block K j (suc i) types rest (omega arith))))
   where
-    later : BlockVariant
+    later : FoundInBlock
     later = bad-in-block (block-variant (suc i)) types
 
     go : (t : Bool) → bad-type K (file-variant (suc (j * K + i))) (types ++ rest)
-        ≡ pick (ltb (later .0) (suc i + length types)) (in-file K j later) (bad-type K (file-variant (j * K + (suc i + length types))) rest)
-        → pick t (bad-type K (file-variant (suc (j * K + i))) (types ++ rest)) (file-variant (j * K + i))
-        ≡ pick (ltb (pick t later (block-variant i) .0) (suc i + length types)) (in-file K j (pick t later (block-variant i)))
-        (bad-type K (file-variant (j * K + (suc i + length types))) rest)
+        ≡ found-or K j later (bad-type K (file-variant (j * K + (suc i + length types))) rest)
+        → pick t (bad-type K (file-variant (suc (j * K + i))) (types ++ rest)) (in-file-as.At (file-variant (j * K + i)))
+        ≡ found-or K j (pick t later (At (block-variant i))) (bad-type K (file-variant (j * K + (suc i + length types))) rest)
     go true h = h
-    go false h = simp (lt-ltb i (suc i + length types) (omega arith))
+    go false h = refl
 
 -- from the types of block j to those of the next
-pub turn-8 : (K j : ℕ) (x : BlockVariant) (f : Fixed) (a : Arrays) (records : List ℕ) → Known K f a → j * K < f .variants
+pub turn-8 : (K j : ℕ) (x : FoundInBlock) (f : Fixed) (a : Arrays) (records : List ℕ) → Known K f a → j * K < f .variants
     → x ≡ bad-in-block (block-variant 0) (digits-at (form-of f .type-bits) (drop (block-place K f j) (in-parts K f a records)) 0 (block-variants K f j))
     → bad-type K (file-variant (j * K)) (drop (j * K) (a .columns .types))
-    ≡ pick (ltb (x .0) (block-variants K f j)) (in-file K j x)
-    (bad-type K (file-variant (j * K + block-variants K f j)) (drop (j * K + block-variants K f j) (a .columns .types)))
+    ≡ found-or K j x (bad-type K (file-variant (j * K + block-variants K f j)) (drop (j * K + block-variants K f j) (a .columns .types)))
 unfolding block-variants
 turn-8 K j x f a records h lt e =
     let n : ℕ = min K (f .variants - j * K) in
@@ -146,8 +150,7 @@ turn-8 K j x f a records h lt e =
     let l : length types ≡ n = column-length (f .variants) (j * K) n (a .columns .types) (h .all-fit .types-count) (min-le-right K _) in
     let x₁ : x ≡ bad-in-block (block-variant 0) types = e ∙ ap (bad-in-block (block-variant 0)) (block-types-at K j f a records h lt) in
     let b : bad-type K (file-variant (j * K)) (types ++ drop n left)
-    ≡ pick (ltb (bad-in-block (block-variant 0) types .0) n) (in-file K j (bad-in-block (block-variant 0) types))
-    (bad-type K (file-variant (j * K + n)) (drop n left))
+    ≡ found-or K j (bad-in-block (block-variant 0) types) (bad-type K (file-variant (j * K + n)) (drop n left))
     = simp (add-zero, zero-add, l) at (bad-block K j 0 types (drop n left) (omega (arith, min-le-left K (f .variants - j * K)))) in
     ap (bad-type K (file-variant (j * K))) (sym (take-append-drop n left)) ∙ b ∙ rw (x₁, drop-drop) refl
 

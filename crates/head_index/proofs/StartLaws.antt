@@ -232,7 +232,3 @@ body-at-is K v l p h lt = stored-body K (layout-bytes K l) (layout-bytes K l) l 
 
 pub records-end : (K : ℕ) (l : Layout) → zero < K → LayoutObeys K l → record-start K l (file-variant (length (l .bodies))) ≡ length (layout-bytes K l)
 records-end K l p h = stored-end K (layout-bytes K l) (layout-bytes K l) l (stored-layout K l p h)
-
-pub record-inside : (K : ℕ) (v : FileVariant) (l : Layout) → zero < K → LayoutObeys K l → v .0 < length (l .bodies)
-    → record-start K l v + length (getD (l .bodies) (v .0) []) ≤ length (layout-bytes K l)
-record-inside K v l p h lt = stored-inside K (layout-bytes K l) (layout-bytes K l) l (stored-layout K l p h) v lt

@@ -3,6 +3,8 @@
 use Prim.Native.Nat.{ℕ, zero, suc, _+_, _*_, _/_, _%_, _^_}
 use mathlib.Core.List.{List, [], _∷_}
 use lib.ListN.{drop, getD}
+use lib.Dec.{eqb}
+use Rattle.format.specs.Base.{pick}
 use Rattle.format.specs.Packed.{Bits, limit, more}
 use Rattle.format.specs.Layout.{Fixed}
 
@@ -27,19 +29,12 @@ digit-at bits bs i = getD bs (i / suc (more bits)) 0 / limit bits ^ (i % suc (mo
 -- so many of them, from number i on
 unfoldable pub digits-at : Bits → List ℕ → ℕ → ℕ → List ℕ
 digits-at bits bs i zero = []
-digits-at bits bs i (suc count) = digit-at bits bs i ∷ digits-at bits bs (suc i) count
+digits-at bits bs i (suc count) = digit-at bits bs i ∷ digits-at bits bs (i + 1) count
 
 -- 01, The header: "Each packed array ends at a byte boundary, and its unused bits are zero."
--- what is left of the last byte after n numbers, of which `room` may still stand in `rest`
-unfoldable pub unused-after : ℕ → ℕ → ℕ → ℕ → ℕ → List ℕ → ℕ
-unused-after b m room rest zero bs = rest
-unused-after b m zero rest (suc n) [] = 0
-unused-after b m zero rest (suc n) (x ∷ bs) = unused-after b m m (x / b) n bs
-unused-after b m (suc room) rest (suc n) bs = unused-after b m room (rest / b) n bs
-
--- what is left of the last byte of an array of n numbers
-abbrev pub unused-bits : Bits → ℕ → List ℕ → ℕ
-unused-bits bits n bs = unused-after (limit bits) (more bits) 0 0 n bs
+-- What n numbers leave of the last byte that they stand in: nothing where they fill it
+unfoldable pub unused-bits : Bits → ℕ → List ℕ → ℕ
+unused-bits bits n bs = pick (eqb (n % suc (more bits)) 0) 0 (getD bs (n / suc (more bits)) 0 / limit bits ^ (n % suc (more bits)))
 
 -- ---- the first twelve bytes
 

@@ -6,12 +6,16 @@ use lib.ListN.{length, take, drop}
 use lib.Dec.{eqb}
 use Rattle.format.specs.declared.FileVariant.{FileVariant}
 use Rattle.format.specs.declared.BlockVariant.{BlockVariant}
-use Rattle.format.specs.Base.{pick, Out, ok, bind, need}
+use Rattle.format.specs.declared.FoundInBlock.{FoundInBlock}
+use Rattle.format.specs.declared.FoundInBlock.the-variants as in-block-as
+use Rattle.format.specs.declared.FoundInFile.{FoundInFile}
+use Rattle.format.specs.declared.FoundInFile.the-variants as in-file-as
+use Rattle.format.specs.Base.{pick, Out, ok, refuse, bind, need}
 use Rattle.format.specs.Packed.{one, packed-size}
-use Rattle.format.specs.Variant.{next-variant, block-variant, in-block}
+use Rattle.format.specs.Variant.{next-variant, block-variant, in-block, in-file}
 use Rattle.format.specs.Layout.{Fixed, unblocked, Form, form-of, flag-count, Arrays, block-count, block-sizes, block-size, first-record}
 use Rattle.format.specs.Layout.{Layout, block-offsets, type-allowed}
-use Rattle.format.specs.Header.{header-with, read-after-fixed, layout-of, read-bodies, read-data}
+use Rattle.format.specs.Header.{header-with, type-place, read-after-fixed, layout-of, read-bodies, read-data}
 use Rattle.head_index.specs.NumbersAt.{unused-bits, fixed-at}
 
 -- ---- 7: "unused header bits set", at "that byte"
@@ -38,15 +42,25 @@ unused-arrays K f bs =
 
 -- ---- 8: "type not allowed"
 
--- the first such type from variant v on; past the last if there is none
-unfoldable pub bad-type : ℕ → FileVariant → List ℕ → FileVariant
-bad-type K v [] = v
-bad-type K v (type ∷ types) = pick (type-allowed (in-block K v) type) (bad-type K (next-variant v) types) v
+-- the first such type from variant v on
+unfoldable pub bad-type : ℕ → FileVariant → List ℕ → FoundInFile
+bad-type K v [] = in-file-as.Nowhere
+bad-type K v (type ∷ types) = pick (type-allowed (in-block K v) type) (bad-type K (next-variant v) types) (in-file-as.At v)
 
--- the first of a block's types, from number i on; past the last if there is none
-unfoldable pub bad-in-block : BlockVariant → List ℕ → BlockVariant
-bad-in-block i [] = i
-bad-in-block i (type ∷ types) = pick (type-allowed i type) (bad-in-block (block-variant (suc (i .0))) types) i
+-- the first of a block's types, from number i on
+unfoldable pub bad-in-block : BlockVariant → List ℕ → FoundInBlock
+bad-in-block i [] = in-block-as.Nowhere
+bad-in-block i (type ∷ types) = pick (type-allowed i type) (bad-in-block (block-variant (suc (i .0))) types) (in-block-as.At i)
+
+-- what was found in a block, as a variant of the file; else what is found after that block
+abbrev pub found-or : ℕ → ℕ → FoundInBlock → FoundInFile → FoundInFile
+found-or K block (in-block-as.At i) later = in-file-as.At (in-file K block i)
+found-or K block in-block-as.Nowhere later = later
+
+-- refused at the type that was found; else what comes next
+abbrev pub refuse-found : {A : Type 0} → ℕ → Fixed → FoundInFile → Out A → Out A
+refuse-found K f (in-file-as.At v) next = refuse 8 (type-place K f v)
+refuse-found K f in-file-as.Nowhere next = next
 
 -- ---- 9: "block offset wrong, or records don't end at the file's end"
 

@@ -43,4 +43,4 @@ start-at K f bs v =
 -- 01, Categories and kinds: "the nearest earlier variant in the same block whose kind is neither 2 nor 3". Among the types of the block before this one
 unfoldable pub anchor-at : ℕ → Fixed → List ℕ → FileVariant → FileVariant
 anchor-at K f bs v =
-    in-file K (block-of K v) (nearest (digits-at (form-of f .type-bits) (drop (block-place K f (block-of K v)) bs) 0 (in-block K v .0)) (in-block K v .0))
+    in-file K (block-of K v) (nearest (digits-at (form-of f .type-bits) (drop (block-place K f (block-of K v)) bs) 0 (in-block K v .0)) (in-block K v))

@@ -1,8 +1,8 @@
 -- Numbers of 1 to 4 bytes read at once, and one turn of the loops that sum them.
 -- Assumes nothing.
-use mathlib.Core.Path.{_≡_, refl, ap, _∙_}
+use mathlib.Core.Path.{_≡_, refl}
 use Prim.Native.Nat.{ℕ, zero, suc, _+_, _-_, _*_, _^_, _%_, _≤_, _<_}
-use native.Mathlib.Nat.{mul-suc, mul-zero, suc-mul, zero-add, suc-add, add-zero, pow-zero, pow-suc, mod-eq-of-lt, add-mul-mod-self-left}
+use native.Mathlib.Nat.{mul-suc, mul-zero, suc-mul, pow-zero, pow-suc, mod-eq-of-lt, add-mul-mod-self-left}
 use native.Mathlib.Numerals.{add-one}
 use mathlib.Core.List.{List}
 use lib.ListN.{length, drop, getD}
@@ -14,25 +14,9 @@ use mir.Val.{Fits}
 use native.Mathlib.Omega.{arith}
 use Rattle.format.specs.Layout.{sum}
 use Rattle.head_index.specs.NumbersAt.{number-at, numbers-at}
+use Rattle.head_index.proofs.ByIndex.{splits}
 
 -- ---- a number by its bytes
-
--- the lower bytes and those above them
-splits : (w k : ℕ) (bs : List ℕ) → number-at (w + k) bs ≡ number-at w bs + 256 ^ w * number-at k (drop w bs)
-unfolding number-at
-splits zero k bs = rw (zero-add k, pow-zero) (omega arith)
-splits (suc w) k bs =
-    let d : drop w (drop 1 bs) ≡ drop (suc w) bs = drop-drop w 1 bs ∙ ap (λ (z : ℕ). drop z bs) (let z : 1 + w ≡ suc w = omega arith in z) in
-    rw (suc-add, pow-suc) (omega (arith, rw d at (splits w k (drop 1 bs))))
-
--- the lowest byte
-pub low-byte : (at : ℕ) (bs : List ℕ) {x : ℕ} → x ≡ getD bs at 0 → x ≡ number-at 1 (drop at bs)
-unfolding number-at
-low-byte at bs e = simp (getD-drop, add-zero) (omega arith)
-
--- one byte more, above those that were read
-pub high-byte : (w at : ℕ) (bs : List ℕ) {x b : ℕ} → x ≡ number-at w (drop at bs) → b ≡ getD bs (at + w) 0 → x + 256 ^ w * b ≡ number-at (w + 1) (drop at bs)
-high-byte w at bs e d = rw (e, low-byte (at + w) bs d, splits w 1 (drop at bs), drop-drop)
 
 below : (w at : ℕ) (bs : List ℕ) → ((i : ℕ) → Fits w8 (getD bs i 0)) → number-at w (drop at bs) < 256 ^ w
 unfolding number-at

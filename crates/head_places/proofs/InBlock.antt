@@ -17,7 +17,7 @@ use Rattle.format.specs.Base.{pick}
 use Rattle.format.specs.Packed.{four, eight, packed-size}
 use Rattle.format.specs.Limits.{most-variants}
 use Rattle.format.specs.Body.{type-leans}
-use Rattle.format.specs.Variant.{block-of, in-block, in-file, nearest, anchor}
+use Rattle.format.specs.Variant.{block-of, in-block, in-file, last-standing, nearest, anchor}
 use Rattle.format.specs.Layout.{unblocked, sum, Layout, fixed-of, record-start}
 use Rattle.format.proofs.Rules.{by-test, never-both}
 use Rattle.head_index.specs.NumbersAt.{number-at, numbers-at, digits-at}
@@ -41,13 +41,13 @@ fewer-types i n true h = omega arith
 fewer-types i n false h = rw (div-one (i + 0), div-one (n + 0)) (omega arith)
 
 -- the nearest is among those before
-nearest-before : (types : List ℕ) (i : ℕ) → nearest types i .0 ≤ i
-unfolding nearest
+nearest-before : (types : List ℕ) (count : ℕ) → last-standing types count .0 ≤ count
+unfolding last-standing
 nearest-before types zero = omega arith
-nearest-before types (suc i) =
-    by-test (λ (x : BlockVariant). x .0 ≤ suc i) (type-leans (getD types i 0)) (λ t. omega (arith, nearest-before types i)) (λ t. omega arith)
+nearest-before types (suc count) =
+    by-test (λ (x : BlockVariant). x .0 ≤ suc count) (type-leans (getD types count 0)) (λ t. omega (arith, nearest-before types count)) (λ t. omega arith)
 
-pub nearest-small : (types : List ℕ) (v : FileVariant) {i x : BlockVariant} → i ≡ in-block 65536 v → x ≡ nearest types (i .0) → x .0 ≤ 65536
+pub nearest-small : (types : List ℕ) (v : FileVariant) {i x : BlockVariant} → i ≡ in-block 65536 v → x ≡ nearest types i → x .0 < 65536
 nearest-small types v {i} q e = omega (arith, ap (λ (z : BlockVariant). z .0) e, nearest-before types (i .0), ap (λ (z : BlockVariant). z .0) q)
 
 -- a leaning variant is of a file with blocks
@@ -139,7 +139,7 @@ module _ {index held : List ℕ} {f : Fields} {v : FileVariant} (h : HasVariant 
           )
 
       pub anchor-found : {x : BlockVariant} {r : FileVariant}
-          → x ≡ nearest (digits-at (pick (b .half) four eight) (drop (b .at + block * b .full) index) 0 (i .0)) (i .0)
+          → x ≡ nearest (digits-at (pick (b .half) four eight) (drop (b .at + block * b .full) index) 0 (i .0)) i
           → r ≡ in-file 65536 block x → Anchored index held f v r
       unfolding anchor-at
       anchor-found {x} {r} k z =

@@ -11,7 +11,7 @@ use borrow.Author.Tests.{not-true, not-false}
 use Rattle.format.specs.Base.{pick}
 use Rattle.format.specs.Packed.{Bits, more, packed-size}
 use Rattle.format.specs.Body.{type-leans}
-use Rattle.format.specs.Variant.{block-variant, nearest}
+use Rattle.format.specs.Variant.{block-variant, last-standing}
 use Rattle.head_index.specs.NumbersAt.{digit-at, digits-at}
 use Rattle.head_types.proofs.Types.{stands}
 
@@ -21,8 +21,8 @@ unfolding digits-at
 digits-get bits i zero k bs h = absurd (omega arith)
 digits-get bits i (suc n) zero bs h = ap (digit-at bits bs) (sym (add-zero i))
 digits-get bits i (suc n) (suc k) bs h =
-    let step : suc i + k ≡ i + suc k = omega arith in
-    digits-get bits (suc i) n k bs (omega arith) ∙ ap (digit-at bits bs) step
+    let step : i + 1 + k ≡ i + suc k = omega arith in
+    digits-get bits (i + 1) n k bs (omega arith) ∙ ap (digit-at bits bs) step
 
 -- a block's first n types
 abbrev pub first-types : List ℕ → ℕ → ℕ → Bits → List ℕ
@@ -31,11 +31,12 @@ first-types bs at n bits = digits-at bits (drop at bs) 0 n
 -- the types from k on lean
 pub record Backing (bs : List ℕ) (at n : ℕ) (bits : Bits) (k : ℕ) : Type 0 where
   pub inside : k ≤ n
-  pub same : nearest (first-types bs at n bits) k ≡ nearest (first-types bs at n bits) n
+  pub same : last-standing (first-types bs at n bits) k ≡ last-standing (first-types bs at n bits) n
 
 -- the type before decides
-one-back : (types : List ℕ) (k : ℕ) → zero < k → nearest types k ≡ pick (type-leans (getD types (k - 1) 0)) (nearest types (k - 1)) (block-variant (k - 1))
-unfolding nearest
+one-back : (types : List ℕ) (k : ℕ) → zero < k
+    → last-standing types k ≡ pick (type-leans (getD types (k - 1) 0)) (last-standing types (k - 1)) (block-variant (k - 1))
+unfolding last-standing
 one-back types zero h = absurd (omega arith)
 one-back types (suc k) h = let e : suc k - 1 ≡ k = omega arith in rw e refl
 
@@ -45,8 +46,8 @@ starts bs at n bits = record { inside = omega arith; same = refl }
 
 module _ {bs : List ℕ} {at n : ℕ} {bits : Bits} {k : ℕ} (g : Backing bs at n bits k) where
   -- all lean
-  pub ends : k ≤ zero → block-variant 0 ≡ nearest (first-types bs at n bits) n
-  unfolding nearest
+  pub ends : k ≤ zero → block-variant 0 ≡ last-standing (first-types bs at n bits) n
+  unfolding last-standing
   ends h = let e : k ≡ 0 = omega arith in rw e at (g .same)
 
   module _ (p : zero < k) where
@@ -55,7 +56,8 @@ module _ {bs : List ℕ} {at n : ℕ} {bits : Bits} {k : ℕ} (g : Backing bs at
     stands-before h = stands bs at n bits (k - 1) h (omega (arith, g .inside))
 
     module _ {type : ℕ} {lean : Bool} (d : type ≡ digit-at bits (drop at bs) (k - 1)) (e : lean ≡ type-leans type) where
-      next : {t : Bool} → lean ≡ t → pick t (nearest (first-types bs at n bits) (k - 1)) (block-variant (k - 1)) ≡ nearest (first-types bs at n bits) n
+      next : {t : Bool} → lean ≡ t
+          → pick t (last-standing (first-types bs at n bits) (k - 1)) (block-variant (k - 1)) ≡ last-standing (first-types bs at n bits) n
       next y =
           let same : getD (first-types bs at n bits) (k - 1) 0 ≡ digit-at bits (drop at bs) (k - 1)
           = digits-get bits 0 n (k - 1) (drop at bs) (omega (arith, g .inside)) ∙ ap (digit-at bits (drop at bs)) (zero-add (k - 1)) in
@@ -66,7 +68,7 @@ module _ {bs : List ℕ} {at n : ℕ} {bits : Bits} {k : ℕ} (g : Backing bs at
       goes-on y = record { inside = omega (arith, g .inside); same = next (not-false lean y) }
 
       -- it does not
-      pub stops : not lean ≡ true → block-variant (k - 1) ≡ nearest (first-types bs at n bits) n
+      pub stops : not lean ≡ true → block-variant (k - 1) ≡ last-standing (first-types bs at n bits) n
       stops y = next (not-true lean y)
 
 pub ruleset back-laws = (starts, ends, stands-before, goes-on, stops)

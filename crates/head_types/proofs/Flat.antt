@@ -1,6 +1,6 @@
 -- The flat check of a block's types: one byte, one turn of the loop, and what it says of the block.
 -- Assumes nothing.
-use mathlib.Core.Path.{_≡_, refl, sym, ap, _∙_}
+use mathlib.Core.Path.{_≡_, refl, sym, _∙_}
 use Prim.Native.Nat.{ℕ, zero, suc, _+_, _-_, _/_, _%_, _^_, _≤_, _<_}
 use native.Mathlib.Nat.{div-one, pow-zero, mod-lt, div-lt-iff-lt-mul, lt-div-mul-add, zero-lt-suc}
 use mathlib.Core.Bool.{Bool, true, false}
@@ -11,8 +11,10 @@ use lib.Dec.{eqb}
 use mir.Syntax.{w8}
 use mir.Val.{Fits}
 use native.Mathlib.Omega.{arith}
+use native.Mathlib.Numerals.{add-one}
 use borrow.Author.Tests.{eqb-true}
 use borrow.Author.Count.{below-more}
+use Rattle.format.specs.declared.FoundInBlock.the-variants.{At, Nowhere}
 use Rattle.format.specs.Base.{pick}
 use Rattle.format.specs.Packed.{Bits, four, eight, more, packed-size}
 use Rattle.format.specs.Body.{type-leans}
@@ -88,15 +90,15 @@ each-fine bs at n bits i g h =
 
 -- types that are allowed are passed
 all-allowed : (bs : List ℕ) (n : ℕ) (bits : Bits) (left i : ℕ) → i + left ≡ n → ((k : ℕ) → k < n → type-allowed (block-variant k) (digit-at bits bs k) ≡ true)
-    → bad-in-block (block-variant i) (digits-at bits bs i left) ≡ block-variant n
+    → bad-in-block (block-variant i) (digits-at bits bs i left) ≡ Nowhere
 unfolding bad-in-block digits-at
-all-allowed bs n bits zero i e g = let s : i ≡ n = omega arith in ap block-variant s
-all-allowed bs n bits (suc left) i e g = simp (g i (omega arith)) (all-allowed bs n bits left (suc i) (omega arith) g)
+all-allowed bs n bits zero i e g = refl
+all-allowed bs n bits (suc left) i e g = simp (g i (omega arith), add-one) (all-allowed bs n bits left (suc i) (omega arith) g)
 
 -- the first type does not lean, and all are fine
 pub none-bad : (bs : List ℕ) (at n : ℕ) (bits : Bits) {first size : ℕ} {lean fine : Bool} → first ≡ digit-at bits (drop at bs) 0 → lean ≡ type-leans first
     → lean ≡ false → size ≡ packed-size bits n → (fine ≡ true → FineBytes bs at size bits) → fine ≡ true
-    → block-variant n ≡ bad-in-block (block-variant 0) (digits-at bits (drop at bs) 0 n)
+    → Nowhere ≡ bad-in-block (block-variant 0) (digits-at bits (drop at bs) 0 n)
 none-bad bs at n bits d e l s f t = sym (all-allowed (drop at bs) n bits n 0 (omega arith) allowed)
   where
     g : FineBytes bs at (packed-size bits n) bits
@@ -112,7 +114,7 @@ none-bad bs at n bits d e l s f t = sym (all-allowed (drop at bs) n bits n 0 (om
 
 -- the first type leans
 pub first-bad : (bs : List ℕ) (at n : ℕ) (bits : Bits) {first : ℕ} {lean : Bool} → 1 ≤ n → first ≡ digit-at bits (drop at bs) 0 → lean ≡ type-leans first
-    → lean ≡ true → block-variant 0 ≡ bad-in-block (block-variant 0) (digits-at bits (drop at bs) 0 n)
+    → lean ≡ true → At (block-variant 0) ≡ bad-in-block (block-variant 0) (digits-at bits (drop at bs) 0 n)
 first-bad bs at n bits h d e l =
     let z : n - 0 ≡ n = omega arith in
     let a : type-allowed (block-variant 0) (digit-at bits (drop at bs) 0) ≡ false

@@ -8,6 +8,7 @@ use mathlib.Core.List.{List}
 use lib.ListN.{drop}
 use native.Mathlib.Omega.{arith}
 use borrow.Author.Tests.{not-true, not-false}
+use Rattle.format.specs.declared.FoundInBlock.the-variants.{At, Nowhere}
 use Rattle.format.specs.Base.{pick}
 use Rattle.format.specs.Packed.{Bits}
 use Rattle.format.specs.Variant.{block-variant}
@@ -29,13 +30,13 @@ starts bs at n bits = let e : n - 0 ≡ n = omega arith in record { inside = ome
 pub next-type : (bs : List ℕ) (n : ℕ) (bits : Bits) (i : ℕ) → i < n
     → bad-in-block (block-variant i) (digits-at bits bs i (n - i))
     ≡ pick (type-allowed (block-variant i) (digit-at bits bs i)) (bad-in-block (block-variant (suc i)) (digits-at bits bs (suc i) (n - suc i)))
-    (block-variant i)
+    (At (block-variant i))
 unfolding bad-in-block digits-at
-next-type bs n bits i h = let e : n - i ≡ suc (n - suc i) = omega arith in rw e refl
+next-type bs n bits i h = let e : n - i ≡ suc (n - suc i) = omega arith in rw (e, add-one) refl
 
 module _ {bs : List ℕ} {at n : ℕ} {bits : Bits} {i : ℕ} (g : Scanning bs at n bits i) where
   module _ {type : ℕ} {allowed : Bool} (h : i < n) (d : type ≡ digit-at bits (drop at bs) i) (e : allowed ≡ type-allowed (block-variant i) type) where
-    next : {t : Bool} → allowed ≡ t → pick t (bad-in-block (block-variant (suc i)) (digits-at bits (drop at bs) (suc i) (n - suc i))) (block-variant i)
+    next : {t : Bool} → allowed ≡ t → pick t (bad-in-block (block-variant (suc i)) (digits-at bits (drop at bs) (suc i) (n - suc i))) (At (block-variant i))
         ≡ bad-in-block (block-variant 0) (digits-at bits (drop at bs) 0 n)
     next y = rw (← y, e, d, ← next-type (drop at bs) n bits i h) (g .same)
 
@@ -44,11 +45,11 @@ module _ {bs : List ℕ} {at n : ℕ} {bits : Bits} {i : ℕ} (g : Scanning bs a
     goes-on y = rw add-one (record { inside = h; same = next (not-false allowed y) })
 
     -- it is not
-    pub stops : not allowed ≡ true → block-variant i ≡ bad-in-block (block-variant 0) (digits-at bits (drop at bs) 0 n)
+    pub stops : not allowed ≡ true → At (block-variant i) ≡ bad-in-block (block-variant 0) (digits-at bits (drop at bs) 0 n)
     stops y = next (not-true allowed y)
 
   -- all are
-  pub ends : n ≤ i → block-variant i ≡ bad-in-block (block-variant 0) (digits-at bits (drop at bs) 0 n)
+  pub ends : n ≤ i → Nowhere ≡ bad-in-block (block-variant 0) (digits-at bits (drop at bs) 0 n)
   unfolding bad-in-block digits-at
   ends h = let e : n - i ≡ 0 = omega arith in rw e at (g .same)
 

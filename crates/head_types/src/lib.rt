@@ -12,7 +12,9 @@ ghost use Rattle.format.specs.Layout.{type-allowed};
 ghost use Rattle.head_index.specs.NumbersAt.{digit-at, digits-at};
 ghost use Rattle.head_index.specs.Rules.{bad-in-block};
 ghost use Rattle.head_types.specs.Fine.{Fine, FineByte, FineBytes};
+use base_rows::larger;
 use format::BlockVariant;
+use format::FoundInBlock;
 
 // 01, The header: "packed types (low nibble first)". The type of variant i of a block whose types start at `at`; `half`: types of 4 bits, else of 8.
 pub fn type_at(file: &[u8], at: usize, i: BlockVariant, half: bool) -> u8
@@ -69,8 +71,8 @@ pub fn type_allowed(i: BlockVariant, record_type: u8) -> bool
     true
 }
 
-// The first of n types of a block that is not allowed, looked for one by one; past the last if there is none.
-fn scan(file: &[u8], at: usize, n: usize, half: bool) -> BlockVariant
+// The first of n types of a block that is not allowed, looked for one by one.
+fn scan(file: &[u8], at: usize, n: usize, half: bool) -> FoundInBlock
     requires { ⌜ at + packed-size (pick half four eight) n ≤ length (now file) ⌝ }
     ensures { λ r. ⌜ r ≡ bad-in-block (block-variant 0) (digits-at (pick half four eight) (drop at (now (file .entry))) 0 n) ⌝ }
 {
@@ -78,11 +80,11 @@ fn scan(file: &[u8], at: usize, n: usize, half: bool) -> BlockVariant
     while i < n {
         let record_type = type_at(file, at, BlockVariant(i), half);
         if !type_allowed(BlockVariant(i), record_type) {
-            return BlockVariant(i);
+            return FoundInBlock::At(BlockVariant(i));
         }
         i = i + 1;
     }
-    BlockVariant(i)
+    FoundInBlock::Nowhere
 }
 
 // 1 for a type that is allowed nowhere, else 0: for kinds 2 and 3 at a block's first variant see `bad_in_block`.
@@ -96,12 +98,6 @@ fn amiss(record_type: u8) -> u8
         return 1;
     }
     0
-}
-
-fn larger(a: u8, b: u8) -> u8
-    ensures { λ r. ⌜ (a ≤ r) × (b ≤ r) ⌝ }
-{
-    if a < b { b } else { a }
 }
 
 // The same of the types in one byte.
@@ -139,16 +135,16 @@ pub fn types_size(n: usize, half: bool) -> usize
     n
 }
 
-// 01, Replies: 8, "type not allowed". The first of a block's types that is not allowed; past the last if there is none.
-pub fn bad_in_block(file: &[u8], at: usize, n: usize, half: bool) -> BlockVariant
+// 01, Replies: 8, "type not allowed". The first of a block's types that is not allowed.
+pub fn bad_in_block(file: &[u8], at: usize, n: usize, half: bool) -> FoundInBlock
     requires { ⌜ (1 ≤ n) × (n ≤ variants-to-a-block) × (at + packed-size (pick half four eight) n ≤ length (now file)) ⌝ }
     ensures { λ r. ⌜ r ≡ bad-in-block (block-variant 0) (digits-at (pick half four eight) (drop at (now (file .entry))) 0 n) ⌝ }
 {
     if type_leans(type_at(file, at, BlockVariant(0), half)) {
-        return BlockVariant(0);
+        return FoundInBlock::At(BlockVariant(0));
     }
     if none_amiss(file, at, types_size(n, half), half) {
-        return BlockVariant(n);
+        return FoundInBlock::Nowhere;
     }
     scan(file, at, n, half)
 }
@@ -156,7 +152,7 @@ pub fn bad_in_block(file: &[u8], at: usize, n: usize, half: bool) -> BlockVarian
 // 01: "the nearest earlier variant in the same block whose kind is neither 2 nor 3", among the first i of the block; the first if all of them lean.
 pub fn nearest_before(file: &[u8], at: usize, i: BlockVariant, half: bool) -> BlockVariant
     requires { ⌜ at + packed-size (pick half four eight) (i .0) ≤ length (now file) ⌝ }
-    ensures { λ r. ⌜ r ≡ nearest (digits-at (pick half four eight) (drop at (now (file .entry))) 0 (i .0)) (i .0) ⌝ }
+    ensures { λ r. ⌜ r ≡ nearest (digits-at (pick half four eight) (drop at (now (file .entry))) 0 (i .0)) i ⌝ }
 {
     let n = i.0;
     let mut k = n;

@@ -1,17 +1,19 @@
 // Lists a PGEN file from standard input: M and N, then for each variant its number, its type and its categories.
-ghost use Prim.Native.Nat.{_≤_};
 ghost use mathlib.Core.Path.{_≡_};
+ghost use mathlib.Core.Bool.{true};
 ghost use lib.ListN.{length};
-ghost use Rattle.format.specs.Limits.{most-samples, most-variants};
+ghost use Rattle.format.specs.Limits.{most-samples};
+ghost use Rattle.call_rows.specs.Calls.{next-row-call};
+ghost use Rattle.pgenlist.specs.Listing.{FileChecked, RowTaken};
 use call_rows::Rows;
-use call_rows::RowsReply;
+use call_rows::first_row;
+use format::Fields;
 use format::FileVariant;
 use format::HeaderReply;
 use format::MOST_SAMPLES;
 use format::Refusal;
 use head_records::type_of;
 use pgen::next_row;
-use pgen::start_rows;
 
 // 01: "The listing program reads at most 65,536 bytes from standard input."
 const MOST_INPUT: usize = 65536;
@@ -43,43 +45,36 @@ fn put_row(out: &mut [u8], at: usize, v: FileVariant, record_type: u8, row: &[u8
     text::put(out, filled, b'\n')
 }
 
-// Every row of an accepted file, one variant after another.
+// The next row, where it is proved that none is refused: so the state moved on is all that the call answers.
+fn take_row(rows: Rows, file: &[u8], row: &mut [u8], work: &mut [u8]) -> Rows
+    requires { ⌜ next-row-call rows (now file) (now row) (now work) .verdict .accepted ≡ true ⌝ }
+    ensures { λ r. ⌜ RowTaken rows (now (file .entry)) (now (row .entry)) (now (work .entry)) r (now (row .exit)) (now (work .exit)) ⌝ }
+{
+    let step = next_row(rows, file, row, work);
+    step.rows
+}
+
+// Every row of a file that the whole-file check has accepted, one variant after another.
 fn put_rows(
     file: &[u8],
-    first: Rows,
+    f: Fields,
     work: &mut [u8],
     row: &mut [u8],
     out: &mut [u8],
     at: usize,
 ) -> usize
-    requires { ⌜ (first .fields .variants ≤ most-variants) × (first .fields .samples ≤ length (now row)) ⌝ }
+    requires { ⌜ FileChecked (now file) f (now work) (now row) ⌝ }
 {
-    let f = first.fields;
     let m = f.variants;
     let n = f.samples;
-    let mut rows = first;
+    let mut rows = first_row(f);
     let mut filled = at;
-    let mut i: usize = 0;
-    while i < m {
-        let step = next_row(rows, file, row, work);
-        rows = step.rows;
-        let v = FileVariant(i);
-        let record_type = type_of(file, f, v);
-        filled = put_row(out, filled, v, record_type, &row[..n]);
-        i = i + 1;
+    while rows.variant.0 < m {
+        let v = rows.variant;
+        rows = take_row(rows, file, row, work);
+        filled = put_row(out, filled, v, type_of(file, f, v), &row[..n]);
     }
     filled
-}
-
-// The whole-file check has accepted the file with this work area, so that no call here is refused.
-fn put_variants(file: &[u8], work: &mut [u8], row: &mut [u8], out: &mut [u8], at: usize) -> usize
-    requires { ⌜ length (now row) ≡ most-samples ⌝ }
-{
-    let started = start_rows(file, work);
-    match started {
-        RowsReply::Refused(_) => at,
-        RowsReply::Started(first) => put_rows(file, first, work, row, out, at),
-    }
 }
 
 // 01: "A refused file gives only the line `refused`, number, place, spaced likewise".
@@ -103,7 +98,7 @@ fn list(file: &[u8], work: &mut [u8], row: &mut [u8], out: &mut [u8]) -> usize
             filled = text::put(out, filled, b' ');
             filled = text::put_decimal(out, filled, fields.samples);
             filled = text::put(out, filled, b'\n');
-            put_variants(file, work, row, out, filled)
+            put_rows(file, fields, work, row, out, filled)
         }
     }
 }

@@ -12,6 +12,7 @@ use format::LookupReply;
 use format::Refusal;
 use format::Reply;
 use format::WriteReply;
+use format::refusal_at;
 
 const OUTPUT_FILL: u8 = 0xa5;
 
@@ -25,10 +26,7 @@ fn next(out: &mut [u8], at: usize, n: usize) -> usize {
 
 // 01, Replies: "An accepted call has refusal 0 and place 0."
 fn none() -> Refusal {
-    Refusal {
-        number: 0,
-        place: 0,
-    }
+    refusal_at(0, 0)
 }
 
 // A refusal's number and its place.
@@ -132,7 +130,7 @@ fn viewed(file: &[u8], v: FileVariant) {
     let mut place: usize = 0;
     let part = pgen::view(file, v, &mut number, &mut place);
     let mut out = [0u8; 4096];
-    let a = pair(&mut out, 0, Refusal { number, place });
+    let a = pair(&mut out, 0, refusal_at(number, place));
     let b = next(&mut out, a, part.len());
     let c = buffer(&mut out, b, b'p', part);
     end(&mut out, c);

@@ -5,19 +5,20 @@ use Prim.Native.Nat.{ℕ, zero, _≤_, _<_}
 use mathlib.Core.Bool.{Bool, true, false, not}
 use mathlib.Core.Logic.{_↔_}
 use mathlib.Core.List.{List, []}
-use lib.ListN.{length}
+use lib.ListN.{length, length-map}
 use lib.Dec.{eqb, leb}
 use native.Mathlib.Omega.{arith}
 use borrow.Author.Tests.{leb-true, le-leb}
 use Rattle.format.specs.declared.FileVariant.{FileVariant}
 use Rattle.format.specs.Base.{Bytes, Out, ok, refused, bind, map-out, need}
-use Rattle.format.specs.Body.{Body}
+use Rattle.format.specs.Body.{Body, body-bytes}
 use Rattle.format.specs.Limits.{most-samples}
 use Rattle.format.specs.Layout.{Layout, fixed-of, first-record}
 use Rattle.format.specs.Header.{read-layout}
 use Rattle.format.specs.File.{File, layout-of-file, file-bytes, Obeys, file-of, read-all, read-file}
 use Rattle.format.specs.Writer.{write-record}
-use Rattle.format.specs.Reply.{refusal-of, given, check-out, check-call, read-out, read-call, write-call, flip-out, flip-call}
+use Rattle.format.specs.Reply.{refusal-of, given, no-fields, header-call, check-out, check-call, read-out, read-call, lookup-out, lookup-call}
+use Rattle.format.specs.Reply.{view-out, view-call, write-call, flip-out, flip-call}
 use Rattle.format.proofs.Refuses.{Refuses, Among, every, not-none}
 use Rattle.format.proofs.CallRefusals.{check-numbers, check-refusals}
 use Rattle.format.proofs.Rules.{Holds}
@@ -31,10 +32,40 @@ untouched : {A B : Type 0} (f : A → B) (before : B) (out : Out A) → (refusal
 untouched f before (ok a left) h = absurd (h refl)
 untouched f before (refused why) h = refl
 
+-- 01: "mode, M, N and the form byte (0 for each on a refusal)"
+pub refused-header : (K : ℕ) (file : List ℕ) → (header-call K file .verdict .refusal .number ≡ 0 → ⊥) → header-call K file .fields ≡ no-fields
+unfolding header-call
+refused-header K file h = untouched _ no-fields (read-layout K file) h
+
+pub refused-check : (K : ℕ) (file work : List ℕ) → (check-call K file work .reply .verdict .refusal .number ≡ 0 → ⊥)
+    → check-call K file work .reply .fields ≡ no-fields
+unfolding check-call
+refused-check K file work h = untouched _ no-fields (check-out K file work) h
+
+-- 01: "a lookup gives the category (0 on a refusal)"
+pub refused-lookup : (K : ℕ) (file : List ℕ) (v : FileVariant) (sample : ℕ) (work : List ℕ)
+    → (lookup-call K file v sample work .verdict .refusal .number ≡ 0 → ⊥)
+    → lookup-call K file v sample work .category ≡ 0
+unfolding lookup-call
+refused-lookup K file v sample work h = untouched _ 0 (lookup-out K file v sample work) h
+
+-- 01: "A refused view is the empty part."
+pub refused-view : (K : ℕ) (file : List ℕ) (v : FileVariant) → (view-call K file v .refusal .number ≡ 0 → ⊥) → view-call K file v .part ≡ []
+unfolding view-call
+refused-view K file v h = untouched _ [] (view-out K file v) h
+
+-- 01: "A read changes the output's first N bytes and no others", and a refused one none
 pub refused-read : (K : ℕ) (file : List ℕ) (v : FileVariant) (output work : List ℕ) → (read-call K file v output work .verdict .refusal .number ≡ 0 → ⊥)
     → read-call K file v output work .output ≡ output
 unfolding read-call
 refused-read K file v output work h = untouched _ output (read-out K file v output work) h
+
+-- 01: "A refusal has count 0."
+pub refused-count : (categories : List ℕ) (number code : ℕ) (lent output : List ℕ)
+    → (write-call categories number code lent output .verdict .refusal .number ≡ 0 → ⊥)
+    → write-call categories number code lent output .count ≡ 0
+unfolding write-call
+refused-count categories number code lent output h = untouched length 0 (write-record categories number code lent (length output)) h
 
 pub refused-write : (categories : List ℕ) (number code : ℕ) (lent output : List ℕ)
     → (write-call categories number code lent output .verdict .refusal .number ≡ 0 → ⊥)
@@ -54,6 +85,21 @@ pub accepted : {A : Type 0} (class : List ℕ) → every (λ (n : ℕ). not (eqb
     → refusal-of out .number ≡ 0 → (a : A) × (left : List ℕ) × (out ≡ ok a left)
 accepted class t (ok a left) h e = (a, left, refl)
 accepted class t (refused why) h e = absurd (not-none class t (rw e at h))
+
+-- what was accepted has passed its test
+pub passed : {A : Type 0} (t : Bool) (number place : ℕ) (next : Out A) (a : A) (left : List ℕ) → need t number place next ≡ ok a left
+    → (t ≡ true) × (next ≡ ok a left)
+passed true number place next a left e = (refl, e)
+passed false number place next a left e = let z : _≡_ {A = ℕ} 0 1 = cc in absurd (omega arith)
+
+-- what was accepted is what was read
+pub itself : {A : Type 0} (m : Out A) → Holds (λ (a : A) (left : List ℕ). m ≡ ok a left) m
+itself (ok a left) = refl
+itself (refused why) = tt
+
+-- a file has as many records as its layout
+pub counted : (f : File) → length (layout-of-file f .bodies) ≡ length (f .bodies)
+counted f = length-map (f .bodies) (body-bytes (f .samples))
 
 -- the check of the records is the file's own
 checked-file : (K : ℕ) (file work : List ℕ) (l : Layout) (left : List ℕ) → check-out K file work ≡ ok l left
@@ -77,7 +123,8 @@ checked-file K file work l left e = header (read-layout K file) e
     header (refused why) q = let z : _≡_ {A = ℕ} 0 1 = cc in absurd (omega arith)
 
 -- a file that obeys passes, with a work area for its samples
-passes : (K : ℕ) (f : File) (work : List ℕ) → zero < K → Obeys K f → f .samples ≤ length work → check-out K (file-bytes K f) work ≡ ok (layout-of-file f) []
+pub passes : (K : ℕ) (f : File) (work : List ℕ) → zero < K → Obeys K f → f .samples ≤ length work
+    → check-out K (file-bytes K f) work ≡ ok (layout-of-file f) []
 unfolding read-all file-bytes
 passes K f work p h m =
     let l : Layout = layout-of-file f in

@@ -1,28 +1,27 @@
 -- DEMAND 3, of the call itself: what its contract says of a flip that it accepted.
 -- Assumes nothing.
 use mathlib.Core.Path.{_≡_, refl, sym, ap, _∙_, fun-ext}
-use mathlib.Core.Bool.{Bool, _&&_}
+use mathlib.Core.Bool.{Bool}
 use Prim.Native.Nat.{ℕ, _<_}
 use mathlib.Core.List.{List, []}
 use lib.ListN.{length}
-use lib.Dec.{lit<, eqb}
+use lib.Dec.{lit<}
 use Rattle.format.specs.declared.FileVariant.{FileVariant}
-use Rattle.format.specs.Base.{Bytes, Out, ok, refused, map-out, need}
+use Rattle.format.specs.Base.{Bytes, Out, ok, refused, map-out}
 use Rattle.format.specs.Limits.{variants-to-a-block}
 use Rattle.format.specs.Category.{exchange-all, just-one}
-use Rattle.format.specs.Body.{Body}
 use Rattle.format.specs.Container.{Container}
 use Rattle.format.specs.Layout.{Layout}
-use Rattle.format.specs.Header.{read-layout}
-use Rattle.format.specs.File.{File, layout-of-file, file-of, read-all, read-file, read-row, flip-file, pgen-file, flip-bytes}
-use Rattle.format.specs.Reply.{holds-row, holds-set, checked, refusal-of, given, member, past-last, flip-out, flip-call}
-use Rattle.format.proofs.Rules.{Holds, by-need, by-bind, by-map}
+use Rattle.format.specs.File.{File, layout-of-file, file-bytes, Obeys, read-file, read-row, flip-file, pgen-file, flip-bytes}
+use Rattle.format.specs.Reply.{refusal-of, given, member, flip-out, flip-call}
+use Rattle.format.proofs.Rules.{Holds}
 use Rattle.format.proofs.Refuses.{Refuses, Among, not-none}
 use Rattle.format.proofs.CallRefusals.{flip-numbers, flip-refusals}
-use Rattle.format.proofs.ContainerLaws.{IsStored, IsContainer}
+use Rattle.format.proofs.ContainerLaws.{IsContainer}
 use Rattle.format.proofs.FlipLaws.{SameLayout, flip-layout, pgen-laws}
+use Rattle.format.proofs.FileLaws.{file-exactly}
 use Rattle.promises.proofs.ContainerPromises.{WasFlipped, still-accepted, members-exchanged, just-one-flipped, restored}
-use Rattle.read_file.proofs.Replies.{WasRead}
+use Rattle.promises.proofs.FlipExactly.{flip-whole}
 
 abbrev K : ℕ
 K = variants-to-a-block
@@ -36,38 +35,17 @@ laws = pgen-laws K (lit< tt)
 
 -- ---- an accepted flip has checked the whole file
 
--- what was accepted is what was read
-itself : (A : Type 0) (m : Out A) → Holds (λ (a : A) (left : List ℕ). m ≡ ok a left) m
-itself A (ok a left) = refl
-itself A (refused why) = tt
-
--- whatever was read of the layout, the whole file was read
-abbrev Whole : List ℕ → Layout → List ℕ → Type 0
-Whole file l left = WasRead File (read-file K file)
-
-file-checked : (file set work : List ℕ) → Holds (Whole file) (flip-out K file set work)
-unfolding read-file
-file-checked file set work =
-    by-bind (λ (l : Layout) (left : List ℕ). read-layout K file ≡ ok l left) (Whole file) (read-layout K file) _
-    (itself Layout (read-layout K file)) (λ l left e.
-    by-need (Whole file) (holds-set set l && holds-row work l) 10 0 (need (eqb (past-last (length (l .bodies)) set) 0) 21 0 (checked K l)) (λ t.
-    by-need (Whole file) (eqb (past-last (length (l .bodies)) set) 0) 21 0 (checked K l) (λ u.
-    by-map (λ (bodies : List Body) (rest : List ℕ). read-all K l ≡ ok bodies rest) (Whole file) (read-all K l) (λ (bodies : List Body). l)
-    (itself (List Body) (read-all K l)) (λ bodies rest d.
-    record { value = file-of l bodies; left = rest; is = simp (e, d) }))))
-
--- so with refusal 0 the file was accepted and flipped
+-- with refusal 0 the file was accepted and flipped
 pub was-flipped : (file set work : List ℕ) → Bytes file → flip-call K file set work .verdict .refusal .number ≡ 0
     → WasFlipped files (member set) file (flip-call K file set work .file)
 unfolding flip-call flip-bytes
-was-flipped file set work y q = go (flip-out K file set work) (file-checked file set work) (flip-refusals K file set work (lit< tt) y) q
+was-flipped file set work y q = go (flip-out K file set work) (flip-whole K file set work (lit< tt) y) (flip-refusals K file set work (lit< tt) y) q
   where
-    go : (m : Out Layout) → Holds (Whole file) m → Refuses (Among flip-numbers) m → refusal-of m .number ≡ 0
+    go : (m : Out Layout) → Holds (λ (l : Layout) (left : List ℕ). (f : File) × Obeys K f × (file ≡ file-bytes K f)) m
+        → Refuses (Among flip-numbers) m → refusal-of m .number ≡ 0
         → WasFlipped files (member set) file (given (λ (l : Layout). flip-bytes K (member set) file) file m)
     go (refused why) h f e = absurd (not-none flip-numbers refl (rw e at f))
-    go (ok l left) h f e =
-        let w : IsStored files file (h .value) (h .left) = laws .as-written file (h .value) (h .left) y (h .is) in
-        record { whole = h .value; accepted = h .is ∙ ap (ok (h .value)) (w .ended); flipped = refl }
+    go (ok l left) h f e = record { whole = h .0; accepted = file-exactly K file (h .0) (lit< tt) y .1 (h .1, h .2); flipped = refl }
 
 -- ---- one call, and a second after it
 

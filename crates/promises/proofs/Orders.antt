@@ -1,13 +1,14 @@
 -- Which refusal comes first: inputs with two faults or more, one list under one statement, proved by computation.
 -- 01, Replies: "Order: 1 to 11 by number, the lowest place first within a number (offset fields before the end)."
+-- Why they are proved and not only run: that a file is accepted exactly when it obeys does not say which refusal another gets, and the code follows the
+-- definitions. Two rules that changed places in a definition would pass every other proof. Document 01's own examples are format's list `examples`.
 -- Assumes nothing.
 use mathlib.Core.Path.{_≡_, refl}
 use Prim.Native.Nat.{ℕ}
 use mathlib.Core.Bool.{not}
-use mathlib.Core.List.{List, [], _∷_, map}
-use lib.ListN.{take, set, replicate}
+use mathlib.Core.List.{List, [], _∷_, _++_, map}
+use lib.ListN.{length, take, set, replicate}
 use lib.Dec.{eqb}
-use Rattle.format.specs.declared.Refusal.{Refusal}
 use Rattle.format.specs.Limits.{variants-to-a-block}
 use Rattle.format.specs.Varint.{varint-within, read-varint-within}
 use Rattle.format.specs.Numbers.{number-bytes, read-number, numbers-bytes, read-numbers, read-bytes}
@@ -17,31 +18,32 @@ use Rattle.format.specs.Difflist.{read-entry, read-entries, read-first, read-pa
 use Rattle.format.specs.PairCode.{code-numbered}
 use Rattle.format.specs.Track.{track-bytes, read-pair-code, read-listed, read-kind}
 use Rattle.format.specs.Body.{read-body}
-use Rattle.format.specs.Variant.{file-variant, nearest, anchor}
+use Rattle.format.specs.Variant.{file-variant, last-standing, anchor}
 use Rattle.format.specs.Layout.{fixed-bytes, sum, block-count, cut, block-bytes, blocks-bytes, blocked-bytes, arrays-bytes, block-size, blocked-size}
 use Rattle.format.specs.Layout.{arrays-size, header-bytes, block-starts, joined, in-parts, layout-bytes, record-start}
 use Rattle.format.specs.Header.{read-fixed, need-fixed, read-block, read-blocks, read-blocked, unblocked-arrays, read-arrays, block-place, type-place}
 use Rattle.format.specs.Header.{need-types, read-after-fixed, read-header, need-offsets, split-bodies, read-bodies, read-data, read-layout}
 use Rattle.format.specs.File.{file-bytes, read-records, read-all, read-file, read-over, read-variant, flip-bytes}
 use Rattle.format.specs.Writer.{differences, kind-track, need-categories, write-record}
-use Rattle.format.specs.Reply.{refusal-of, header-call, read-call, write-call, flip-call}
-use Rattle.format.specs.Examples.{Example, _gives_}
+use Rattle.format.specs.Reply.{refusal-of, header-call, check-call, read-call, lookup-call, view-call, write-call, flip-call}
+use Rattle.format.specs.Examples.{A, one-record, number-and-place, Example, _gives_}
 
--- file A (01, Small file used below), and files made of it by setting bytes
-abbrev A : List ℕ
-A =
-    0x6c ∷ 0x1b ∷ 0x10 ∷ 3 ∷ 0 ∷ 0 ∷ 0 ∷ 5 ∷ 0 ∷ 0 ∷ 0 ∷ 0x40 ∷ 0x19 ∷ 0 ∷ 0 ∷ 0 ∷ 0 ∷ 0 ∷ 0 ∷ 0 ∷ 0x20 ∷ 0x04 ∷ 2 ∷ 4 ∷ 3
-    ∷ 0xe4 ∷ 0x00 ∷ 0x02 ∷ 0x01 ∷ 0x06 ∷ 0x03 ∷ 0x01 ∷ 0x02 ∷ 0x03 ∷ []
-
--- number and place: of a header check; of a read of variant v into so many bytes, with a work area of five; of a flip of a set; of a write
-abbrev number-and-place : Refusal → List ℕ
-number-and-place why = why .number ∷ why .place ∷ []
-
+-- number and place: of a header check; of a whole-file check with a work area of so many bytes; of a read of variant v into so many bytes, with a work
+-- area of five; of a lookup of a sample; of a view; of a flip of a set; of a write
 abbrev header : List ℕ → List ℕ
 header file = number-and-place (header-call variants-to-a-block file .verdict .refusal)
 
+abbrev check : List ℕ → ℕ → List ℕ
+check file lent = number-and-place (check-call variants-to-a-block file (replicate lent 7) .reply .verdict .refusal)
+
 abbrev read : List ℕ → ℕ → ℕ → List ℕ
 read file v lent = number-and-place (read-call variants-to-a-block file (file-variant v) (replicate lent 7) (replicate 5 7) .verdict .refusal)
+
+abbrev lookup : List ℕ → ℕ → ℕ → ℕ → List ℕ
+lookup file v sample lent = number-and-place (lookup-call variants-to-a-block file (file-variant v) sample (replicate lent 7) .verdict .refusal)
+
+abbrev view : List ℕ → ℕ → List ℕ
+view file v = number-and-place (view-call variants-to-a-block file (file-variant v) .refusal)
 
 abbrev flip : List ℕ → List ℕ → List ℕ
 flip file bits = number-and-place (flip-call variants-to-a-block file bits (replicate 5 7) .verdict .refusal)
@@ -54,6 +56,18 @@ abbrev list-reply : ℕ → ℕ → List ℕ → List ℕ
 list-reply N end bs =
     number-and-place (refusal-of (read-list (record { samples = N; may = λ (sample value : ℕ). not (eqb value 0) }) (number-width N) end bs))
 
+-- such a list of 65 samples in two groups, of 64 and of one: the first has the samples 0 to 63, in one-byte steps
+abbrev two-groups : ℕ → ℕ → List ℕ
+two-groups size head = (65 ∷ 0 ∷ head ∷ size ∷ []) ++ (replicate 16 0x55 ++ (1 ∷ replicate 63 1))
+
+-- a file of one variant and five samples, of a kind: its record starts at byte 22
+abbrev of-kind : ℕ → List ℕ → List ℕ
+of-kind kind body = set (set (one-record body) 20 kind) 21 (length body)
+
+-- a file of mode 0x02, of one variant and five samples, with a form and the bytes after it
+abbrev unblocked-file : ℕ → List ℕ → List ℕ
+unblocked-file form rest = (0x6c ∷ 0x1b ∷ 0x02 ∷ 1 ∷ 0 ∷ 0 ∷ 0 ∷ 5 ∷ 0 ∷ 0 ∷ 0 ∷ form ∷ []) ++ rest
+
 abbrev pub orders : List Example
 orders =
     -- 1 at the file's length, whatever stands in it
@@ -65,6 +79,19 @@ orders =
     ∷ (header (set (set A 3 0) 7 0) gives (4 ∷ 3 ∷ []))
     ∷ (header (set (set A 7 0) 11 0x08) gives (4 ∷ 7 ∷ []))
     ∷ (header (take 20 (set A 11 0x48)) gives (5 ∷ 11 ∷ []))
+    -- 5 for bit 4 and for bit 5, before 6; in mode 0x02 for each of bits 0 to 5
+    ∷ (header (take 20 (set A 11 0x50)) gives (5 ∷ 11 ∷ []))
+    ∷ (header (take 20 (set A 11 0x60)) gives (5 ∷ 11 ∷ []))
+    ∷ (header (unblocked-file 0xc1 []) gives (5 ∷ 11 ∷ []))
+    ∷ (header (unblocked-file 0xc8 []) gives (5 ∷ 11 ∷ []))
+    ∷ (header (unblocked-file 0xd0 []) gives (5 ∷ 11 ∷ []))
+    ∷ (header (unblocked-file 0xe0 []) gives (5 ∷ 11 ∷ []))
+    -- mode 0x02: 6 for the flag bits, 7 for their unused bits before 9; its record's unused bits (18)
+    ∷ (header (unblocked-file 0xc0 []) gives (6 ∷ 12 ∷ []))
+    ∷ (header (unblocked-file 0xc0 (0x02 ∷ [])) gives (7 ∷ 12 ∷ []))
+    ∷ (header (unblocked-file 0xc0 (0x01 ∷ 0xe4 ∷ [])) gives (9 ∷ 14 ∷ []))
+    ∷ (header (unblocked-file 0x80 (0xe4 ∷ 0x00 ∷ 0x00 ∷ [])) gives (9 ∷ 15 ∷ []))
+    ∷ (read (unblocked-file 0x40 (0xe4 ∷ 0x04 ∷ [])) 0 5 gives (18 ∷ 13 ∷ []))
     -- 6 before 7, 7 before 8, 8 before 9, whatever stands first
     ∷ (header (take 24 (set A 21 0x14)) gives (6 ∷ 24 ∷ []))
     ∷ (header (set (set A 20 0x50) 21 0x14) gives (7 ∷ 21 ∷ []))
@@ -80,11 +107,47 @@ orders =
     ∷ (read (set (set A 26 0x04) 29 0x05) 1 5 gives (18 ∷ 26 ∷ []))
     ∷ (read (set A 29 0x05) 1 5 gives (17 ∷ 29 ∷ []))
     ∷ (read (set A 29 0x05) 2 5 gives (0 ∷ 0 ∷ []))
+    -- a lookup: the same, and 11 for its sample too; the whole record is checked
+    ∷ (lookup (set A 12 0) 3 5 4 gives (9 ∷ 12 ∷ []))
+    ∷ (lookup A 3 5 4 gives (10 ∷ 0 ∷ []))
+    ∷ (lookup (set A 26 0xff) 3 0 5 gives (11 ∷ 0 ∷ []))
+    ∷ (lookup (set A 29 0x05) 1 5 5 gives (11 ∷ 0 ∷ []))
+    ∷ (lookup (set (set A 26 0x04) 29 0x05) 1 0 5 gives (18 ∷ 26 ∷ []))
+    ∷ (lookup (set A 29 0x05) 1 0 5 gives (17 ∷ 29 ∷ []))
+    ∷ (lookup (set A 29 0x05) 2 0 5 gives (0 ∷ 0 ∷ []))
+    -- a view: 9 before 11, and no record
+    ∷ (view (set A 12 0) 3 gives (9 ∷ 12 ∷ []))
+    ∷ (view (set A 29 0x05) 3 gives (11 ∷ 0 ∷ []))
+    ∷ (view (set A 29 0x05) 1 gives (0 ∷ 0 ∷ []))
+    -- a whole-file check: 9 before 10 before the records, in variant order
+    ∷ (check (set A 12 0) 4 gives (9 ∷ 12 ∷ []))
+    ∷ (check (set A 29 0x05) 4 gives (10 ∷ 0 ∷ []))
+    ∷ (check (set (set A 26 0x04) 29 0x05) 5 gives (18 ∷ 26 ∷ []))
+    ∷ (check (set (set A 29 0x05) 33 0x00) 5 gives (17 ∷ 29 ∷ []))
+    ∷ (check (set A 33 0x00) 5 gives (17 ∷ 33 ∷ []))
     -- a flip: 10 before 21 before the records, of which the first comes first
     ∷ (flip (set A 29 0x05) (0x0f ∷ 0 ∷ []) gives (10 ∷ 0 ∷ []))
     ∷ (flip (set A 29 0x05) (0x0f ∷ []) gives (21 ∷ 0 ∷ []))
     ∷ (flip (set (set A 29 0x05) 33 0x00) (0x07 ∷ []) gives (17 ∷ 29 ∷ []))
+    -- kind 1, part by part: its code (12, 14), its bits (12, 18), its list (17), lastly 13
+    ∷ (read (of-kind 1 []) 0 5 gives (12 ∷ 22 ∷ []))
+    ∷ (read (of-kind 1 (4 ∷ [])) 0 5 gives (14 ∷ 22 ∷ []))
+    ∷ (read (of-kind 1 (4 ∷ 0x26 ∷ [])) 0 5 gives (14 ∷ 22 ∷ []))
+    ∷ (read (of-kind 1 (1 ∷ [])) 0 5 gives (12 ∷ 23 ∷ []))
+    ∷ (read (of-kind 1 (1 ∷ 0x26 ∷ [])) 0 5 gives (18 ∷ 23 ∷ []))
+    ∷ (read (of-kind 1 (1 ∷ 0x26 ∷ 1 ∷ 4 ∷ 1 ∷ [])) 0 5 gives (18 ∷ 23 ∷ []))
+    ∷ (read (of-kind 1 (1 ∷ 0x06 ∷ 1 ∷ 4 ∷ 1 ∷ 9 ∷ [])) 0 5 gives (17 ∷ 26 ∷ []))
+    ∷ (read (of-kind 1 (1 ∷ 0x06 ∷ 1 ∷ 4 ∷ 3 ∷ 9 ∷ [])) 0 5 gives (13 ∷ 27 ∷ []))
+    -- 13 last in the other kinds too: after a packed array (12, 18), after a list (17), also an empty one
+    ∷ (read (of-kind 0 (0xe4 ∷ [])) 0 5 gives (12 ∷ 23 ∷ []))
+    ∷ (read (of-kind 0 (0xe4 ∷ 0x04 ∷ 9 ∷ [])) 0 5 gives (18 ∷ 23 ∷ []))
+    ∷ (read (of-kind 0 (0xe4 ∷ 0x00 ∷ 9 ∷ [])) 0 5 gives (13 ∷ 24 ∷ []))
+    ∷ (read (of-kind 4 (1 ∷ 2 ∷ 0 ∷ 9 ∷ [])) 0 5 gives (17 ∷ 24 ∷ []))
+    ∷ (read (of-kind 4 (1 ∷ 2 ∷ 3 ∷ 9 ∷ [])) 0 5 gives (13 ∷ 25 ∷ []))
+    ∷ (read (of-kind 4 (0 ∷ 9 ∷ [])) 0 5 gives (13 ∷ 23 ∷ []))
     -- the writer: 4, 19, 10 (anchor), 20 (categories, then anchor), 10 (output)
+    ∷ (write (replicate 65537 4) 5 0 [] 0 gives (4 ∷ 0 ∷ []))
+    ∷ (write [] 2 0 (9 ∷ []) 0 gives (4 ∷ 0 ∷ []))
     ∷ (write [] 5 7 (1 ∷ []) 0 gives (4 ∷ 0 ∷ []))
     ∷ (write (4 ∷ []) 5 0 (1 ∷ []) 0 gives (19 ∷ 0 ∷ []))
     ∷ (write (4 ∷ []) 1 4 (1 ∷ []) 0 gives (19 ∷ 0 ∷ []))
@@ -101,18 +164,27 @@ orders =
     ∷ (list-reply 9 40 (1 ∷ 9 ∷ 0xf0 ∷ []) gives (18 ∷ 39 ∷ []))
     ∷ (list-reply 9 40 (1 ∷ 9 ∷ 0x00 ∷ []) gives (16 ∷ 38 ∷ []))
     ∷ (list-reply 9 40 (1 ∷ 8 ∷ 0x00 ∷ []) gives (17 ∷ 39 ∷ []))
+    -- entry by entry: the first one's value (17) before the second one's varint (15)
+    ∷ (list-reply 9 40 (2 ∷ 3 ∷ 0x04 ∷ 0x80 ∷ 0x00 ∷ []) gives (17 ∷ 37 ∷ []))
     -- an entry's varint (12, 15) before its number (16)
     ∷ (list-reply 9 40 (2 ∷ 8 ∷ 0x05 ∷ []) gives (12 ∷ 40 ∷ []))
     ∷ (list-reply 9 40 (2 ∷ 8 ∷ 0x05 ∷ 0x80 ∷ 0x00 ∷ []) gives (15 ∷ 38 ∷ []))
     ∷ (list-reply 9 40 (2 ∷ 8 ∷ 0x01 ∷ 0x00 ∷ []) gives (16 ∷ 39 ∷ []))
+    -- a group's last value (17) before its size byte (16), that before the next group's head (16), that before its value (17)
+    ∷ (list-reply 256 100 (two-groups 0 64) gives (0 ∷ 0 ∷ []))
+    ∷ (list-reply 256 100 (set (two-groups 1 63) 19 0x15) gives (17 ∷ 35 ∷ []))
+    ∷ (list-reply 256 100 (two-groups 1 63) gives (16 ∷ 19 ∷ []))
+    ∷ (list-reply 256 100 (set (two-groups 0 63) 20 0) gives (16 ∷ 18 ∷ []))
+    ∷ (list-reply 256 100 (set (two-groups 0 64) 20 0) gives (17 ∷ 36 ∷ []))
     ∷ []
 
 pub orders-hold : map (λ (e : Example). e .what) orders ≡ map (λ (e : Example). e .is) orders
-unfolding read-call header-call write-call flip-call write-record need-categories kind-track differences flip-bytes read-variant read-over read-file
+unfolding header-call check-call read-call lookup-call view-call write-call flip-call write-record need-categories kind-track differences flip-bytes
+    read-variant read-over read-file
     read-all read-records file-bytes read-layout read-data read-bodies split-bodies need-offsets read-header read-after-fixed need-types type-place block-place
     read-arrays unblocked-arrays
     read-blocked read-blocks read-block need-fixed read-fixed record-start layout-bytes in-parts header-bytes joined block-starts arrays-size blocked-size
-    block-size arrays-bytes blocked-bytes blocks-bytes block-bytes cut block-count sum fixed-bytes anchor nearest read-body read-kind read-listed
+    block-size arrays-bytes blocked-bytes blocks-bytes block-bytes cut block-count sum fixed-bytes anchor last-standing read-body read-kind read-listed
     read-pair-code track-bytes code-numbered read-list read-parts read-first read-entries read-entry list-parts steps values size-bytes sizes-after
     heads read-packed-after packed-after byte-of read-bytes read-numbers numbers-bytes read-number number-bytes read-varint-within varint-within
 orders-hold = refl

@@ -1,6 +1,6 @@
 -- Started on a file and stepped, the v-th call gives exactly what `read` of variant v gives, refusals too.
 -- Assumes nothing.
-use mathlib.Core.Path.{_≡_, refl, sym, ap, subst}
+use mathlib.Core.Path.{_≡_, refl, sym, ap, _∙_, subst}
 use Prim.Native.Nat.{ℕ, zero, suc, _≤_, _<_}
 use native.Mathlib.Nat.{add-zero}
 use mathlib.Core.List.{List, [], _++_}
@@ -11,25 +11,23 @@ use borrow.Author.Tests.{le-leb, lt-leb, lt-ltb, le-ltb}
 use Rattle.format.specs.declared.Refusal.{Refusal}
 use Rattle.format.specs.declared.Reply.the-variants.{Refused}
 use Rattle.format.specs.Base.{Bytes, Out, ok, refuse, refused, refusal}
-use Rattle.format.specs.Limits.{most-variants, most-samples, variants-to-a-block}
+use Rattle.format.specs.Limits.{variants-to-a-block}
 use Rattle.format.specs.Variant.{file-variant}
 use Rattle.format.specs.Layout.{fields-of, sum, first-record, Layout, LayoutObeys, fixed-of, record-start}
 use Rattle.format.specs.Header.{read-layout}
 use Rattle.format.specs.File.{read-variant}
-use Rattle.format.specs.Reply.{given, read-left, read-out, read-call}
+use Rattle.format.specs.Reply.{verdict, given, read-out, read-call}
 use Rattle.format.proofs.Rules.{split, never-both}
 use Rattle.format.proofs.AnchorLaws.{stands-at}
 use Rattle.format.proofs.FileLaws.{one-type-each}
 use Rattle.head_index.specs.Stored.{Stored}
 use Rattle.head_index.proofs.StoredLaws.{stored-whole}
-use Rattle.head_records.proofs.AcceptedLaws.{variants-most, samples-most}
-use Rattle.read_file.specs.Rows.{replied}
 use Rattle.call_rows.specs.declared.Rows.{Rows}
-use Rattle.call_rows.specs.declared.RowsReply.the-variants.{Started}
-use Rattle.call_rows.specs.Calls.{first-row, start-rows-call, Left, row-left, answered, next-row-call}
+use Rattle.call_rows.specs.Calls.{first-row, start-rows-call, state-checked, Left, row-left, answered, next-row-call}
 use Rattle.call_rows.proofs.Started.{FromStart, from-start}
-use Rattle.call_rows.proofs.RecordLaws.{short-output, no-variant, not-found}
-use Rattle.promises.proofs.StepIsRead.{state, Before, steps}
+use Rattle.call_rows.proofs.StateLaws.{short-output, no-variant}
+use Rattle.call_rows.proofs.RecordLaws.{not-next, not-found}
+use Rattle.promises.proofs.StepIsRead.{state, Before, Stepped, steps}
 
 abbrev K : ℕ
 K = variants-to-a-block
@@ -42,7 +40,7 @@ pub record At : Type 0 where
   pub work : List ℕ
 
 abbrev pub after : Left → At
-after left = record { rows = left .step .rows; work = left .work }
+after left = record { rows = left .rows; work = left .work }
 
 -- a call, from a state and a work area
 abbrev pub called : List ℕ → At → List ℕ → Left
@@ -62,7 +60,7 @@ from rows work = record { rows = rows; work = work }
 -- number, place and output are those of a read of variant v; the work area, which a read clears, is left out
 abbrev pub AsRead : List ℕ → List ℕ → ℕ → List ℕ → Left → Type 0
 AsRead file work v output left =
-    read-left (left .step .reply) (left .output) (read-call K file (file-variant v) output work .work) ≡ read-call K file (file-variant v) output work
+    (left .verdict ≡ read-call K file (file-variant v) output work .verdict) × (left .output ≡ read-call K file (file-variant v) output work .output)
 
 module _ (file work₀ : List ℕ) (y : Bytes file) (l : Layout) (a : read-layout K file ≡ ok l []) (w₀ : l .samples ≤ length work₀) where
   abbrev N : ℕ
@@ -77,13 +75,10 @@ module _ (file work₀ : List ℕ) (y : Bytes file) (l : Layout) (a : read-layou
   obeys : LayoutObeys K l
   obeys = stored .obeys
 
-  few : M ≤ most-variants
-  few = variants-most stored
+  abbrev first : Rows
+  first = first-row (fields-of (fixed-of l))
 
-  few-samples : N ≤ most-samples
-  few-samples = samples-most stored
-
-  begins : Before l work₀ 0 (first-row l) work₀
+  pub begins : Before l work₀ 0 first work₀
   unfolding record-start sum
   begins = record {
     why = refusal 0 0;
@@ -94,32 +89,45 @@ module _ (file work₀ : List ℕ) (y : Bytes file) (l : Layout) (a : read-layou
     holds = refl;
     rest-is = refl;
     told = λ m t.
-        never-both t (stands-at K (l .types) (lit< tt) (obeys .types) 0 (omega (arith, one-type-each K l obeys)) refl);
+        never-both t (stands-at K (l .types) (lit< tt) (obeys .types) (file-variant 0) (omega (arith, one-type-each K l obeys)) refl);
   }
 
   -- ---- calls that are refused leave the state
 
   module _ (v : ℕ) (rows : Rows) (work output : List ℕ) (k : Before l work₀ v rows work) where
+    abbrev st : Rows
+    st = state l v (k .why)
+
+    -- by the state alone
+    stays-at : (why : Refusal) → refused why ≡ state-checked st (length output) (length work)
+        → row-left (answered rows (Refused why)) output work ≡ next-row-call rows file output work
+    unfolding next-row-call
+    stays-at why e = rw (k .state-is) (not-found st file file output work why (not-next st file file (length output) (length work) why e))
+
     too-short : length output < N → row-left (answered rows (Refused (refusal 10 0))) output work ≡ next-row-call rows file output work
-    too-short h =
-        rw (k .state-is)
-        (not-found (state l v (k .why)) file output work (refusal 10 0)
-        (short-output (state l v (k .why)) file (length output) (length work) few few-samples h))
+    too-short h = stays-at (refusal 10 0) (short-output st (length output) (length work) (obeys .fixed .variants) (obeys .fixed .samples) h)
 
     none-left : N ≤ length output → M ≤ v → row-left (answered rows (Refused (refusal 11 0))) output work ≡ next-row-call rows file output work
     none-left o h =
-        rw (k .state-is)
-        (not-found (state l v (k .why)) file output work (refusal 11 0)
-        (no-variant (state l v (k .why)) file (length output) (length work) few few-samples o (omega (arith, k .holds)) h))
+        stays-at (refusal 11 0)
+        (no-variant st (length output) (length work) (obeys .fixed .variants) (obeys .fixed .samples) o (omega (arith, k .holds)) h)
+
+    pub moves-on : v < M → N ≤ length output → Stepped l work₀ v output (read-variant K l (file-variant v)) (next-row-call rows file output work)
+    unfolding next-row-call
+    moves-on h o = steps file file y l stored work₀ w₀ v rows work output k h o
 
   -- ---- what a read gives
 
   module _ (v : ℕ) (output : List ℕ) where
-    as-read : (m : Out (List ℕ)) → read-out K file (file-variant v) output work₀ ≡ m → (left : Left) → left .step .reply ≡ replied m
+    as-read : (m : Out (List ℕ)) → read-out K file (file-variant v) output work₀ ≡ m → (left : Left) → left .verdict ≡ verdict m
         → left .output ≡ given (λ (row : List ℕ). row ++ drop N output) output m → AsRead file work₀ v output left
     unfolding read-call
-    as-read (ok row rest) e left r q = simp (r, q, e) (simp a)
-    as-read (refused why) e left r q = simp (r, q, e) (simp a)
+    as-read m e left r q = (
+      r ∙ ap (λ (z : Out (List ℕ)). verdict z) (sym e),
+      q ∙ ap (λ (z : Out (List ℕ)). given (λ (row : List ℕ). row ++ drop N output) output z) (sym e)
+          ∙ ap (λ (n : ℕ). given (λ (row : List ℕ). row ++ drop n output) output (read-out K file (file-variant v) output work₀))
+          (ap (λ (z : Out Layout). given (λ (l : Layout). l .samples) 0 z) (sym a)),
+    )
 
     read-short : length output < N → read-out K file (file-variant v) output work₀ ≡ refuse 10 0
     read-short h = simp (a, lt-leb N (length output) h)
@@ -147,14 +155,14 @@ module _ (file work₀ : List ℕ) (y : Bytes file) (l : Layout) (a : read-layou
       split M v (λ h.
       let e : v ≡ M = omega (arith, k .reached) in
       stays v at output o h (subst (λ (u : ℕ). Before l work₀ u (at .rows) (at .work)) e k)) (λ h.
-      within (steps file y l a work₀ w₀ v (at .rows) (at .work) output k h o .next))
+      within (moves-on v (at .rows) (at .work) output k h o .next))
   on v at output o (beyond h k) = stays v at output o h k
 
-  reach : (outputs : ℕ → List ℕ) (v : ℕ) → ((u : ℕ) → u < v → N ≤ length (outputs u)) → Reached v (walked file outputs (from (first-row l) work₀) v)
+  reach : (outputs : ℕ → List ℕ) (v : ℕ) → ((u : ℕ) → u < v → N ≤ length (outputs u)) → Reached v (walked file outputs (from first work₀) v)
   unfolding walked
   reach outputs zero each = within begins
   reach outputs (suc v) each =
-      on v (walked file outputs (from (first-row l) work₀) v) (outputs v) (each v (omega arith)) (reach outputs v (λ u h. each u (omega arith)))
+      on v (walked file outputs (from first work₀) v) (outputs v) (each v (omega arith)) (reach outputs v (λ u h. each u (omega arith)))
 
   -- where the read is refused, and the call refuses alike and leaves the state
   refused-alike : (v : ℕ) (at : At) (output : List ℕ) (why : Refusal) → row-left (answered (at .rows) (Refused why)) output (at .work) ≡ called file at output
@@ -167,8 +175,8 @@ module _ (file work₀ : List ℕ) (y : Bytes file) (l : Layout) (a : read-layou
       split N (length output) (λ o.
       split M v (λ h.
       refused-alike v at output (refusal 11 0) (none-left v (at .rows) (at .work) output k o h) (read-none v output o h)) (λ h.
-      let s = steps file y l a work₀ w₀ v (at .rows) (at .work) output k h o in
-      as-read v output (read-variant K l (file-variant v)) (read-one v output o h) (called file at output) (s .reply-is) (s .output-is))) (λ h.
+      let s = moves-on v (at .rows) (at .work) output k h o in
+      as-read v output (read-variant K l (file-variant v)) (read-one v output o h) (called file at output) (s .verdict-is) (s .output-is))) (λ h.
       refused-alike v at output (refusal 10 0) (too-short v (at .rows) (at .work) output k h) (read-short v output h))
   gives v at output (beyond m k) =
       split N (length output) (λ o.
@@ -177,7 +185,7 @@ module _ (file work₀ : List ℕ) (y : Bytes file) (l : Layout) (a : read-layou
 
 -- The v-th call, counted from 0, gives what `read` of variant v gives: for every v, also past the last, and for every output, also a short one. Of the
 -- outputs lent before, each held N bytes: a call that is refused with 10 does not move on.
-pub rows-are-reads : (file work : List ℕ) (rows : Rows) → Bytes file → start-rows-call file work ≡ Started rows
+pub rows-are-reads : (file work : List ℕ) (rows : Rows) → Bytes file → start-rows-call file work ≡ ok rows []
     → (outputs : ℕ → List ℕ) (v : ℕ) → ((u : ℕ) → u < v → rows .fields .samples ≤ length (outputs u)) → (output : List ℕ)
     → AsRead file work v output (called file (walked file outputs (from rows work) v) output)
 rows-are-reads file work rows y e outputs v each output =
@@ -186,5 +194,5 @@ rows-are-reads file work rows y e outputs v each output =
     let held : (u : ℕ) → u < v → l .samples ≤ length (outputs u)
     = λ u h. subst (λ (r : Rows). r .fields .samples ≤ length (outputs u)) (s .rows-are) (each u h) in
     subst (λ (r : Rows). AsRead file work v output (called file (walked file outputs (from r work) v) output)) (sym (s .rows-are))
-    (gives file work y l (s .is-accepted) (s .room) v (walked file outputs (from (first-row l) work) v) output
+    (gives file work y l (s .is-accepted) (s .room) v (walked file outputs (from (first-row (fields-of (fixed-of l))) work) v) output
     (reach file work y l (s .is-accepted) (s .room) outputs v held))

@@ -1,72 +1,93 @@
--- The next record of a check of all: each way out of its check, and what it is to reading the record into the row.
+-- The next record of a check of all: each way out of its check, and what that leaves for the records after it.
 -- Assumes nothing.
 use mathlib.Core.Path.{_≡_, refl, sym, ap, _∙_}
-use Prim.Native.Nat.{ℕ}
-use mathlib.Core.Bool.{Bool, true, false, _||_}
-use mathlib.Core.List.{List}
+use Prim.Native.Nat.{ℕ, _≤_}
+use mathlib.Core.Bool.{Bool, true, false, not, _&&_}
+use mathlib.Core.List.{List, _++_}
 use mathlib.Core.Logic.{_⊎_, inl, inr}
+use lib.ListN.{length, take, drop, replicate, length-replicate}
+use lib.Seq.{drop-at}
+use Rattle.format.specs.declared.Refusal.{Refusal}
 use Rattle.format.specs.declared.Reply.{Reply}
-use Rattle.format.specs.Base.{pick}
-use Rattle.format.specs.Body.{type-leans}
-use Rattle.read_record.specs.Recorded.{RecordLeft, record-left, recorded}
+use Rattle.format.specs.Base.{pick, Out, ok, refused}
+use Rattle.format.specs.Body.{type-leans, Body, read-body, body-categories}
+use Rattle.read_record.specs.Recorded.{replied, RecordLeft, record-left, record-replied, recorded}
+use Rattle.read_record.proofs.BodyLaws.{reply-of, row-of, reply-as}
 use Rattle.read_check.specs.Checked.{body-checked}
 use Rattle.read_check.specs.Next.{next-checked}
-use Rattle.read_check.proofs.Agrees.{reply-of, as-read}
 
 -- ---- the ways out: `leaning` and `leaning-after` are what the calls for the two types gave
 
-pub next-stands : (type : ℕ) (leaning : Bool) → leaning ≡ type-leans type → leaning ≡ false → type-leans type ≡ false
-next-stands type leaning e t = sym e ∙ t
+-- a row that is there for any type is there for one that leans
+pub row-there : (n type : ℕ) (row : List ℕ) → n ≤ length row → type-leans type ≡ true → n ≤ length row
+row-there n type row h t = h
 
 module _ (n type after : ℕ) (l : List ℕ) (start : ℕ) (row : List ℕ) (leaning : Bool) (e : leaning ≡ type-leans type) where
   abbrev Next : Reply → List ℕ → Type 0
   Next r new = record-left r new ≡ next-checked n type after l start row
 
-  pub next-leaning : (r : Reply) (new : List ℕ) → leaning ≡ true → record-left r new ≡ recorded true n type l start row → Next r new
+  -- it is an anchor
+  pub next-read : (leaning-after : Bool) → leaning-after ≡ type-leans after → not leaning ≡ true → leaning-after ≡ true → (r : Reply) (new : List ℕ)
+      → record-left r new ≡ recorded n type l start row → Next r new
   unfolding next-checked
-  next-leaning r new t d = let f : type-leans type ≡ true = cc in rw f d
+  next-read leaning-after a t u r new d = rw (← e, ← a, t, u) d
 
-  module _ (t : leaning ≡ false) where
-    stands : type-leans type ≡ false
-    stands = next-stands type leaning e t
-
-    module _ (leaning-after : Bool) (a : leaning-after ≡ type-leans after) where
-      pub next-leant-on : (r : Reply) (new : List ℕ) → leaning-after ≡ true → record-left r new ≡ recorded true n type l start row → Next r new
-      unfolding next-checked
-      next-leant-on r new u d = let f : type-leans after ≡ true = cc in rw (stands, f) d
-
-      pub next-only : (r : Reply) → leaning-after ≡ false → r ≡ body-checked n type l start → Next r row
-      unfolding next-checked
-      next-only r u d = let f : type-leans after ≡ false = cc in rw (stands, f, d)
-
-pub ruleset next-laws = (next-leaning, next-stands, next-leant-on, next-only)
-
--- ---- as if it had been read
-
--- `made` is the row that reading the record leaves: the row now, unless nothing leans on it
-pub record AsIfRead (n type after : ℕ) (l : List ℕ) (start : ℕ) (row : List ℕ) (r : Reply) (new : List ℕ) : Type 0 where
-  pub made : List ℕ
-  pub is : record-left r made ≡ recorded true n type l start row
-  pub held : (new ≡ made) ⊎ ((new ≡ row) × (type-leans after ≡ false))
-
-abbrev row-of : RecordLeft → List ℕ
-row-of (record-left reply row) = row
-
-whole : (x : RecordLeft) → record-left (reply-of x) (row-of x) ≡ x
-whole (record-left reply row) = refl
-
-module _ (n type after : ℕ) (l : List ℕ) (start : ℕ) (row : List ℕ) (r : Reply) (new : List ℕ) where
-  abbrev read : RecordLeft
-  read = recorded true n type l start row
-
-  pub as-if-read : record-left r new ≡ next-checked n type after l start row → AsIfRead n type after l start row r new
+  pub next-leaning : not leaning ≡ false → (r : Reply) → r ≡ body-checked n type l start row → Next r row
   unfolding next-checked
-  as-if-read d = go (type-leans type) (type-leans after) refl refl d
+  next-leaning t r d = rw (← e, t, d)
+
+  pub next-only : (leaning-after : Bool) → leaning-after ≡ type-leans after → leaning-after ≡ false
+      → (r : Reply) → r ≡ body-checked n type l start row → Next r row
+  unfolding next-checked
+  next-only leaning-after a u r d = rw (← e, ← a, u, never (not leaning), d)
     where
-      go : (a b : Bool) → type-leans type ≡ a → type-leans after ≡ b
-          → record-left r new ≡ pick (a || b) read (record-left (body-checked n type l start) row) → AsIfRead n type after l start row r new
-      go true b p q e = record { made = new; is = e; held = inl refl }
-      go false true p q e = record { made = new; is = e; held = inl refl }
-      go false false p q e =
-          let same : r ≡ reply-of read = ap reply-of e ∙ sym (as-read true n type l start row p) in
-          record { made = row-of read; is = rw same (whole read); held = inr (ap row-of e, q) }
+      never : (b : Bool) → b && false ≡ false
+      never true = refl
+      never false = refl
+
+pub ruleset next-laws = (row-there, next-read, next-leaning, next-only)
+
+-- ---- what is left after it
+
+-- what a record does to a row that those after it lean on
+abbrev carried : Bool → ℕ → List ℕ → Body → List ℕ
+carried leans n row body = pick leans row (body-categories n (take n row) body ++ drop n row)
+
+module _ (n type after : ℕ) (l : List ℕ) (start : ℕ) (row : List ℕ) (r : Reply) (new : List ℕ)
+    (d : record-left r new ≡ next-checked n type after l start row) where
+  abbrev read : Out Body
+  read = read-body (length l) n (take n row) type (drop start l)
+
+  abbrev Left : Bool → Bool → Type 0
+  Left a b = record-left r new ≡ pick (not a && b) (record-replied n row read) (record-left (replied read) row)
+
+  was-left : Left (type-leans type) (type-leans after)
+  unfolding next-checked recorded body-checked
+  was-left = d
+
+  pub next-reply : r ≡ replied read
+  next-reply = go (type-leans type) (type-leans after) was-left
+    where
+      go : (a b : Bool) → Left a b → r ≡ replied read
+      go true b e = ap reply-of e
+      go false false e = ap reply-of e
+      go false true e = ap reply-of e ∙ reply-as n row read
+
+  pub next-row : (body : Body) (left : List ℕ) → read ≡ ok body left
+      → (new ≡ carried (type-leans type) n row body) ⊎ ((new ≡ row) × (type-leans after ≡ false))
+  next-row body left q = go (type-leans type) (type-leans after) was-left
+    where
+      go : (a b : Bool) → Left a b → (new ≡ carried a n row body) ⊎ ((new ≡ row) × (b ≡ false))
+      go true b e = inl (ap row-of e)
+      go false false e = inr (ap row-of e, refl)
+      go false true e = inl (ap row-of (e ∙ ap (record-replied n row) q))
+
+  -- what stands behind the row's first n bytes stays
+  pub next-rest : (why : Refusal) → read ≡ refused why → drop n new ≡ drop n row
+  next-rest why q = go (type-leans type) (type-leans after) was-left
+    where
+      go : (a b : Bool) → Left a b → drop n new ≡ drop n row
+      go true b e = ap (λ (z : RecordLeft). drop n (row-of z)) e
+      go false false e = ap (λ (z : RecordLeft). drop n (row-of z)) e
+      go false true e =
+          ap (λ (z : RecordLeft). drop n (row-of z)) (e ∙ ap (record-replied n row) q) ∙ drop-at (replicate n 0) (drop n row) n (length-replicate n 0)

@@ -1,11 +1,11 @@
 -- What each way out of the checks of a track says.
 -- Assumes nothing.
 use mathlib.Core.Path.{_≡_, refl, ap, _∙_}
-use Prim.Native.Nat.{ℕ, zero, suc, _+_, _-_, _≤_, _<_}
+use Prim.Native.Nat.{ℕ, _-_, _≤_, _<_}
 use native.Mathlib.Omega.{arith}
 use mathlib.Core.Bool.{Bool, true, false, not, _||_}
 use mathlib.Core.List.{List, [], map}
-use lib.ListN.{getD, length, drop, length-drop}
+use lib.ListN.{getD, length, take, drop, length-drop}
 use lib.Dec.{eqb}
 use mir.Syntax.{w8}
 use mir.Val.{Fits as Bounded}
@@ -14,7 +14,8 @@ use Rattle.format.specs.Base.{Out, ok, refused, refusal, bind, map-out}
 use Rattle.format.specs.Packed.{Bits, one, two, read-packed}
 use Rattle.format.specs.Difflist.{number-width, read-list}
 use Rattle.format.specs.PairCode.{PairCode, pair, found}
-use Rattle.format.specs.Track.{array, paired, kind, leans, one-bit, sparse, rule, off-pair, off-category, bit-set, read-listed, read-kind}
+use Rattle.format.specs.Track.{array, paired, kind, leans-kind, leans, one-bit, leaning, sparse}
+use Rattle.format.specs.Track.{rule, off-pair, off-anchor, off-category, bit-set, read-listed, read-kind}
 use Rattle.format.specs.declared.Pair.{Pair}
 use Rattle.format.specs.declared.PairFound.{PairFound}
 use Rattle.format.specs.declared.PairFound.the-variants.{Known, Unknown}
@@ -26,12 +27,14 @@ use Rattle.read_packed.specs.Unpacked.{array-at}
 use Rattle.read_packed.specs.declared.PackedStep.{PackedStep}
 use Rattle.read_packed.specs.declared.PackedStep.the-variants.{Next, Refused as NotPacked}
 use Rattle.read_packed.proofs.CheckLaws.{Accepted, was-accepted, was-refused}
-use Rattle.read_list.specs.Checked.{off-both, stepped, checked}
+use Rattle.read_list.specs.Checked.{stepped, checked}
+use Rattle.read_list.specs.declared.ListRule.the-variants.{OffPair, OffRow}
 use Rattle.read_list.specs.declared.ListStep.{ListStep}
 use Rattle.read_list.specs.declared.ListStep.the-variants.{Listed, Refused}
+use Rattle.read_record.specs.Rows.{off-both}
 use Rattle.read_record.proofs.RuleLaws.{list-same}
 use Rattle.read_record.proofs.CodeLaws.{code-inside, UnderCode, code-missing, code-unknown, code-known}
-use Rattle.read_record.proofs.BodyLaws.{sparse-kind}
+use Rattle.read_record.proofs.BodyLaws.{leaning-kind, sparse-kind}
 use Rattle.read_check.specs.Checked.{track-checked, bits-checked}
 
 -- what an array was found to be
@@ -39,27 +42,27 @@ module _ (bits : Bits) (l : List ℕ) (at n : ℕ) (got : PackedStep) (told : go
   not-packed : (why : Refusal) → got ≡ NotPacked why → read-packed (length l) bits n (drop at l) ≡ refused why
   not-packed why q = was-refused bits l at n why (cc)
 
-  module _ (next : ℕ) (q : got ≡ Next next) (known : (i : ℕ) → Bounded w8 (getD l i 0)) (h : at ≤ length l) where
+  module _ (next : Cursor) (q : got ≡ Next next) (known : (i : ℕ) → Bounded w8 (getD l i 0)) (h : at ≤ length l) where
     accepted : Accepted bits l at n next
     accepted = was-accepted bits l at n next (λ i. known i .fits) h (cc)
 
-    pub next-inside : next ≤ length l
-    next-inside = omega (arith, accepted .ends, accepted .inside)
+    pub next-inside : next .at ≤ length l
+    next-inside = rw (accepted .ends) (accepted .inside)
 
-    place : length l - length (drop next l) ≡ next
-    place = omega (arith, length-drop next l, next-inside)
+    place : length l - length (drop (next .at) l) ≡ next .at
+    place = omega (arith, length-drop (next .at) l, next-inside)
 
 -- ---- kind 0
 
 module _ (l : List ℕ) (start n : ℕ) (got : PackedStep) (told : got ≡ array-at two n l start) where
-  pub plain-refused : (why : Refusal) → got ≡ NotPacked why → Refused why ≡ track-checked array n l start
+  pub plain-refused : (why : Refusal) → got ≡ NotPacked why → Refused why ≡ track-checked array n l start []
   unfolding track-checked read-kind
   plain-refused why q = rw (not-packed two l start n got told why q)
 
-  pub plain-next : (at : ℕ) → got ≡ Next at → ((i : ℕ) → Bounded w8 (getD l i 0)) → start ≤ length l
-      → Listed (record { at = at }) ≡ track-checked array n l start
+  pub plain-next : (next : Cursor) → got ≡ Next next → ((i : ℕ) → Bounded w8 (getD l i 0)) → start ≤ length l
+      → Listed next ≡ track-checked array n l start []
   unfolding track-checked read-kind
-  plain-next at q known h = rw (accepted two l start n got told at q known h .reads, place two l start n got told at q known h)
+  plain-next next q known h = rw (accepted two l start n got told next q known h .reads, place two l start n got told next q known h)
 
 -- ---- kind 1, after its pair code
 
@@ -68,10 +71,10 @@ module _ (l : List ℕ) (at n lower higher : ℕ) (got : PackedStep) (told : got
   unfolding bits-checked
   bits-refused why q = rw (not-packed one l at n got told why q)
 
-  pub bits-listed : (next : ℕ) → got ≡ Next next → ((i : ℕ) → Bounded w8 (getD l i 0)) → at ≤ length l
-      → (r : ListStep) → r ≡ checked lower higher n l next → r ≡ bits-checked lower higher n l at
+  pub bits-listed : (next : Cursor) → got ≡ Next next → ((i : ℕ) → Bounded w8 (getD l i 0)) → at ≤ length l
+      → (row : List ℕ) (r : ListStep) → r ≡ checked (OffPair lower higher) n l (next .at) row → r ≡ bits-checked lower higher n l at
   unfolding checked bits-checked
-  bits-listed next q known h r e = rw (accepted one l at n got told next q known h .reads) e
+  bits-listed next q known h row r e = rw (accepted one l at n got told next q known h .reads) e
 
 pub ruleset part-laws = (plain-refused, plain-next, next-inside, bits-refused, bits-listed)
 
@@ -90,19 +93,20 @@ bits-through l n c (ok bits left) = stepped-map (length l) (one-bit c (map bit-s
 bits-through l n c (refused why) = refl
 
 module _ (l : List ℕ) (start n : ℕ) (got : ByteStep) (told : got ≡ byte-at l start) where
-  pub no-code : (why : Refusal) → got ≡ NoByte why → Refused why ≡ track-checked paired n l start
+  pub no-code : (why : Refusal) → got ≡ NoByte why → Refused why ≡ track-checked paired n l start []
   unfolding track-checked
-  no-code why e = rw (code-missing l start n [] got told why e)
+  no-code why e = rw (code-missing l start n (take n []) got told why e)
 
   module _ (code : ℕ) (next : Cursor) (e : got ≡ Byte code next) (f : PairFound) (g : f ≡ found code) where
-    pub unknown-code : f ≡ Unknown → Refused (refusal 14 start) ≡ track-checked paired n l start
+    pub unknown-code : f ≡ Unknown → (why : Refusal) → why ≡ refusal 14 start → Refused why ≡ track-checked paired n l start []
     unfolding track-checked
-    unknown-code u = rw (code-unknown l start n [] got told code next e f g u)
+    unknown-code u why w = rw (w, code-unknown l start n (take n []) got told code next e f g u)
 
-    pub known-code : (p : Pair) → f ≡ Known p → (r : ListStep) → r ≡ bits-checked (p .lower) (p .higher) n l (next .at) → r ≡ track-checked paired n l start
+    pub known-code : (p : Pair) → f ≡ Known p → (r : ListStep) → r ≡ bits-checked (p .lower) (p .higher) n l (next .at) → r ≡ track-checked paired n l start []
     unfolding track-checked bits-checked
     known-code p q r d =
-        let u : UnderCode l n p (next .at) (read-kind (length l) n [] paired (drop start l)) = code-known l start n [] got told code next e f g p q in
+        let u : UnderCode l n p (next .at) (read-kind (length l) n (take n []) paired (drop start l))
+        = code-known l start n (take n []) got told code next e f g p q in
         rw (u .reads, bits-through l n (u .code) (read-packed (length l) one n (drop (next .at) l))) (rw (u .is) at d)
 
 pub ruleset pair-laws = (code-inside, no-code, unknown-code, known-code)
@@ -117,31 +121,38 @@ off-one category sample value = either (eqb value category)
     either true = refl
     either false = refl
 
--- a kind that leans on none and is neither 0 nor 1 is at least 4
-pub at-least-4 : (number : ℕ) → leans number ≡ false → (number ≡ 0 → ⊥) → (number ≡ 1 → ⊥) → 4 ≤ number
-at-least-4 zero t p q = absurd (p refl)
-at-least-4 (suc zero) t p q = absurd (q refl)
-at-least-4 (suc (suc zero)) t p q = absurd (let z : _≡_ {A = ℕ} 0 1 = cc in omega arith)
-at-least-4 (suc (suc (suc zero))) t p q = absurd (let z : _≡_ {A = ℕ} 0 1 = cc in omega arith)
-at-least-4 (suc (suc (suc (suc number)))) t p q = omega arith
+-- a kind that leans has a row
+pub leaner-row : (n number : ℕ) (row : List ℕ) → (leans number ≡ true → n ≤ length row) → (number ≡ 0 → ⊥) → (number ≡ 1 → ⊥) → number < 4 → n ≤ length row
+leaner-row n number row h p q g = h (ap leans-kind (leaning-kind number p q g))
 
-module _ (l : List ℕ) (start n number : ℕ) (r : ListStep) where
-  pub of-plain : number ≡ 0 → r ≡ track-checked array n l start → r ≡ track-checked (kind number) n l start
+module _ (l : List ℕ) (start n number : ℕ) (row : List ℕ) (r : ListStep) where
+  pub of-plain : number ≡ 0 → r ≡ track-checked array n l start [] → r ≡ track-checked (kind number) n l start row
+  unfolding track-checked read-kind
   of-plain e g = rw e g
 
-  pub of-paired : number ≡ 1 → r ≡ track-checked paired n l start → r ≡ track-checked (kind number) n l start
+  pub of-paired : number ≡ 1 → r ≡ track-checked paired n l start [] → r ≡ track-checked (kind number) n l start row
+  unfolding track-checked read-kind
   of-paired e g = rw e g
 
-  pub of-sparse : leans number ≡ false → (number ≡ 0 → ⊥) → (number ≡ 1 → ⊥) → number < 8 → (number ≡ 5 → ⊥)
-      → r ≡ checked (number - 4) (number - 4) n l start → r ≡ track-checked (kind number) n l start
+  pub of-leaning : (number ≡ 0 → ⊥) → (number ≡ 1 → ⊥) → number < 4 → r ≡ checked OffRow n l start row → r ≡ track-checked (kind number) n l start row
   unfolding checked track-checked read-kind read-listed
-  of-sparse t p q h z g =
+  of-leaning p q h g =
+      rw (
+        leaning-kind number p q h,
+        stepped-map (length l) (leaning (eqb number 3)) (read-list (rule n (off-anchor (take n row))) (number-width n) (length l) (drop start l)),
+      )
+      g
+
+  pub of-sparse : 4 ≤ number → number < 8 → (number ≡ 5 → ⊥)
+      → r ≡ checked (OffPair (number - 4) (number - 4)) n l start row → r ≡ track-checked (kind number) n l start row
+  unfolding checked track-checked read-kind read-listed
+  of-sparse a h z g =
       let category : ℕ = number - 4 in
       rw (
-        sparse-kind number (at-least-4 number t p q) h z,
+        sparse-kind number a h z,
         stepped-map (length l) (sparse category) (read-list (rule n (off-category category)) (number-width n) (length l) (drop start l)),
         ← list-same n (off-both category category) (off-category category) (λ s v i. off-one category s v) (number-width n) (length l) (drop start l),
       )
       g
 
-pub ruleset track-laws = (at-least-4, of-plain, of-paired, of-sparse)
+pub ruleset track-laws = (leaner-row, of-plain, of-paired, of-leaning, of-sparse)

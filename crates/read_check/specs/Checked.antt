@@ -1,22 +1,22 @@
--- The contract: what the check of a record that leans on none answers. It leans on nothing, so the format reads it over no anchor, `[]`, as over any other
--- (proofs/Agrees).
+-- The contract: what the check of a record answers, over the row that holds its anchor's categories. Only a record that leans looks at the row.
 -- Assumes nothing.
 use Prim.Native.Nat.{ℕ}
-use mathlib.Core.List.{List, []}
-use lib.ListN.{length, drop}
-use Rattle.format.specs.Base.{Out, ok, refused, bind}
+use mathlib.Core.List.{List}
+use lib.ListN.{length, take, drop}
+use Rattle.format.specs.Base.{bind}
 use Rattle.format.specs.Packed.{one, read-packed}
 use Rattle.format.specs.Difflist.{number-width, read-list}
 use Rattle.format.specs.Track.{Kind, rule, read-kind}
 use Rattle.format.specs.Body.{read-body}
-use Rattle.read_list.specs.Checked.{off-both, stepped}
-use Rattle.read_list.specs.declared.ListStep.{ListStep}
 use Rattle.format.specs.declared.Reply.{Reply}
-use Rattle.format.specs.declared.Reply.the-variants.{Accepted, Refused}
+use Rattle.read_list.specs.Checked.{stepped}
+use Rattle.read_list.specs.declared.ListStep.{ListStep}
+use Rattle.read_record.specs.Rows.{off-both}
+use Rattle.read_record.specs.Recorded.{replied}
 
 -- the track of a kind at `start`, of a record that ends where the list l does
-unfoldable pub track-checked : Kind → ℕ → List ℕ → ℕ → ListStep
-track-checked k n l start = stepped (length l) (read-kind (length l) n [] k (drop start l))
+unfoldable pub track-checked : Kind → ℕ → List ℕ → ℕ → List ℕ → ListStep
+track-checked k n l start row = stepped (length l) (read-kind (length l) n (take n row) k (drop start l))
 
 -- the bits and the list of a track of kind 1, after its pair code
 unfoldable pub bits-checked : ℕ → ℕ → ℕ → List ℕ → ℕ → ListStep
@@ -24,10 +24,6 @@ bits-checked lower higher n l at =
     stepped (length l)
     (bind (read-packed (length l) one n (drop at l)) (λ bits left. read-list (rule n (off-both lower higher)) (number-width n) (length l) left))
 
-abbrev pub replied : {A : Type 0} → Out A → Reply
-replied (ok a left) = Accepted
-replied (refused why) = Refused why
-
 -- the record of a type
-unfoldable pub body-checked : ℕ → ℕ → List ℕ → ℕ → Reply
-body-checked n type l start = replied (read-body (length l) n [] type (drop start l))
+unfoldable pub body-checked : ℕ → ℕ → List ℕ → ℕ → List ℕ → Reply
+body-checked n type l start row = replied (read-body (length l) n (take n row) type (drop start l))

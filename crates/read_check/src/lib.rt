@@ -1,21 +1,24 @@
-// A record that leans on none, only checked: there is no row, so nothing is read into one and nothing is left of one after a refusal. (A record that leans is
-// checked over its anchor's row: read_record::read_body with `keep`.) And the next record of a check of all, which is one or the other. Every slice `s` is the
-// file cut where the record ends, so that its length is the record's end and a place in it is a place in the file.
+// A record only checked: nothing is read into a row, so nothing is left of one after a refusal. One that leans looks at the row that holds its anchor's
+// categories; another needs no row. And the next record of a check of all. Every slice `s` is the file cut where the record ends, so that its length is the
+// record's end and a place in it is a place in the file.
 use base_cursor::ByteStep;
 use base_cursor::Cursor;
 use format::PairFound;
-use format::Refusal;
 use format::Reply;
+use format::refusal_at;
 use head_types::kind_of;
 use head_types::type_leans;
+use read_list::ListRule;
 use read_list::ListStep;
 use read_list::check::check_list;
 use read_packed::PackedStep;
 use read_packed::Width;
 use read_packed::check_array;
 use read_record::read_body;
+use read_record::whole_record;
 ghost use mathlib.Core.Path.{_≡_};
-ghost use mathlib.Core.Bool.{false};
+ghost use mathlib.Core.Bool.{true};
+ghost use mathlib.Core.List.{[]};
 ghost use Prim.Native.Nat.{_≤_, _<_};
 ghost use lib.ListN.{length};
 ghost use Rattle.format.specs.Body.{kind-of, type-leans};
@@ -26,46 +29,43 @@ ghost use Rattle.read_check.specs.Checked.{track-checked, bits-checked, 
 ghost use Rattle.read_check.specs.Next.{next-checked};
 
 // "Kind 0: the packed array."
-fn check_plain(s: &[u8], start: usize, n: usize) -> ListStep
-    requires { ⌜ (start ≤ length (now s)) × (n ≤ most-samples) ⌝ }
-    ensures { λ r. ⌜ r ≡ track-checked array n (now (s .entry)) start ⌝ }
+fn check_plain(s: &[u8], c: Cursor, n: usize) -> ListStep
+    requires { ⌜ (c .at ≤ length (now s)) × (n ≤ most-samples) ⌝ }
+    ensures { λ r. ⌜ r ≡ track-checked array n (now (s .entry)) (c .at) [] ⌝ }
 {
-    let got = check_array(s, start, n, Width::Two);
+    let got = check_array(s, c, n, Width::Two);
     match got {
         PackedStep::Refused(why) => ListStep::Refused(why),
-        PackedStep::Next(at) => ListStep::Listed(Cursor { at }),
+        PackedStep::Next(next) => ListStep::Listed(next),
     }
 }
 
 // "a bit per sample (set: the higher category of the pair), then a list of pairs for samples in the other two categories"
-fn check_bits(s: &[u8], at: usize, n: usize, lower: u8, higher: u8) -> ListStep
-    requires { ⌜ (at ≤ length (now s)) × (n ≤ most-samples) ⌝ }
-    ensures { λ r. ⌜ r ≡ bits-checked lower higher n (now (s .entry)) at ⌝ }
+fn check_bits(s: &[u8], c: Cursor, n: usize, lower: u8, higher: u8) -> ListStep
+    requires { ⌜ (c .at ≤ length (now s)) × (n ≤ most-samples) ⌝ }
+    ensures { λ r. ⌜ r ≡ bits-checked lower higher n (now (s .entry)) (c .at) ⌝ }
 {
-    let got = check_array(s, at, n, Width::One);
+    let got = check_array(s, c, n, Width::One);
     match got {
         PackedStep::Refused(why) => ListStep::Refused(why),
-        PackedStep::Next(at) => check_list(s, n, lower, higher, Cursor { at }),
+        // no row is looked at: the list is off a pair
+        PackedStep::Next(next) => check_list(s, n, ListRule::OffPair(lower, higher), next, &s[..0]),
     }
 }
 
 // "Kind 1: a pair code". 14, "pair code unknown", at "that byte".
-fn check_pair(s: &[u8], start: usize, n: usize) -> ListStep
-    requires { ⌜ (start ≤ length (now s)) × (n ≤ most-samples) ⌝ }
-    ensures { λ r. ⌜ r ≡ track-checked paired n (now (s .entry)) start ⌝ }
+fn check_pair(s: &[u8], c: Cursor, n: usize) -> ListStep
+    requires { ⌜ (c .at ≤ length (now s)) × (n ≤ most-samples) ⌝ }
+    ensures { λ r. ⌜ r ≡ track-checked paired n (now (s .entry)) (c .at) [] ⌝ }
 {
-    let c = Cursor { at: start };
     let got = c.byte(s);
     match got {
         ByteStep::Refused(why) => ListStep::Refused(why),
         ByteStep::Byte(code, next) => {
             let found = base_pairs::pair_of(code);
             match found {
-                PairFound::Unknown => ListStep::Refused(Refusal {
-                    number: 14,
-                    place: start,
-                }),
-                PairFound::Known(pair) => check_bits(s, next.at, n, pair.lower, pair.higher),
+                PairFound::Unknown => ListStep::Refused(refusal_at(14, c.at)),
+                PairFound::Known(pair) => check_bits(s, next, n, pair.lower, pair.higher),
             }
         }
     }
@@ -73,64 +73,52 @@ fn check_pair(s: &[u8], start: usize, n: usize) -> ListStep
 
 // The main track of the kind that has the number: the cursor past it, or a refusal. A further track of the record starts at that cursor; 13 is looked
 // for after the last of them, so not here.
-pub fn check_track(s: &[u8], start: usize, n: usize, number: u8) -> ListStep
-    requires { ⌜ (start ≤ length (now s)) × (n ≤ most-samples) ⌝ }
-    requires { ⌜ (number < 8) × (number ≡ 5 → ⊥) × (leans number ≡ false) ⌝ }
-    ensures { λ r. ⌜ r ≡ track-checked (kind number) n (now (s .entry)) start ⌝ }
+pub fn check_track(s: &[u8], c: Cursor, n: usize, number: u8, row: &[u8]) -> ListStep
+    requires { ⌜ (c .at ≤ length (now s)) × (n ≤ most-samples) ⌝ }
+    requires { ⌜ (number < 8) × (number ≡ 5 → ⊥) × (leans number ≡ true → n ≤ length (now row)) ⌝ }
+    ensures { λ r. ⌜ r ≡ track-checked (kind number) n (now (s .entry)) (c .at) (now (row .entry)) ⌝ }
 {
     if number == 0 {
-        return check_plain(s, start, n);
+        return check_plain(s, c, n);
     }
     if number == 1 {
-        return check_pair(s, start, n);
+        return check_pair(s, c, n);
+    }
+    if number < 4 {
+        return check_list(s, n, ListRule::OffRow, c, row);
     }
     // "Kinds 4, 6, 7: a list of the samples outside category 0, 2, 3"
     let category = number - 4;
-    check_list(s, n, category, category, Cursor { at: start })
+    check_list(s, n, ListRule::OffPair(category, category), c, row)
 }
 
-// The record of a type. 01, Replies: "Lastly 13".
-pub fn check_body(s: &[u8], start: usize, n: usize, record_type: u8) -> Reply
-    requires { ⌜ (start ≤ length (now s)) × (n ≤ most-samples) ⌝ }
-    requires { ⌜ (kind-of record_type ≡ 5 → ⊥) × (type-leans record_type ≡ false) ⌝ }
-    ensures { λ r. ⌜ r ≡ body-checked n record_type (now (s .entry)) start ⌝ }
+// The record of a type, at `c`.
+pub fn check_body(s: &[u8], c: Cursor, n: usize, record_type: u8, row: &[u8]) -> Reply
+    requires { ⌜ (c .at ≤ length (now s)) × (n ≤ most-samples) ⌝ }
+    requires { ⌜ (kind-of record_type ≡ 5 → ⊥) × (type-leans record_type ≡ true → n ≤ length (now row)) ⌝ }
+    ensures { λ r. ⌜ r ≡ body-checked n record_type (now (s .entry)) (c .at) (now (row .entry)) ⌝ }
 {
-    let kind = kind_of(record_type);
-    let got = check_track(s, start, n, kind);
-    match got {
-        ListStep::Refused(why) => Reply::Refused(why),
-        ListStep::Listed(next) => {
-            let at = next.at;
-            if at < s.len() {
-                return Reply::Refused(Refusal {
-                    number: 13,
-                    place: at,
-                });
-            }
-            Reply::Accepted
-        }
-    }
+    whole_record(check_track(s, c, n, kind_of(record_type), row), s.len())
 }
 
 // The next record of a check of all, in variant order; `after` is the type of the record after it. The row's first n bytes hold the anchor's categories if it
 // leans, and then they stay. They become its own only where the record after it leans, whose anchor it is; elsewhere nothing looks at them: no row is made.
 pub fn check_next(
     s: &[u8],
-    start: usize,
+    c: Cursor,
     n: usize,
     record_type: u8,
     after: u8,
     row: &mut [u8],
 ) -> Reply
-    requires { ⌜ (start ≤ length (now s)) × (n ≤ most-samples) × (n ≤ length (now row)) ⌝ }
+    requires { ⌜ (c .at ≤ length (now s)) × (n ≤ most-samples) × (n ≤ length (now row)) ⌝ }
     requires { ⌜ (kind-of record_type ≡ 5 → ⊥) ⌝ }
-    ensures { λ r. ⌜ record-left r (now (row .exit)) ≡ next-checked n record_type after (now (s .entry)) start (now (row .entry)) ⌝ }
+    ensures { λ r. ⌜ record-left r (now (row .exit)) ≡ next-checked n record_type after (now (s .entry)) (c .at) (now (row .entry)) ⌝ }
 {
-    if type_leans(record_type) {
-        return read_body(s, start, n, record_type, true, row);
+    if !type_leans(record_type) {
+        if type_leans(after) {
+            return read_body(s, c, n, record_type, row);
+        }
     }
-    if type_leans(after) {
-        return read_body(s, start, n, record_type, true, row);
-    }
-    check_body(s, start, n, record_type)
+    check_body(s, c, n, record_type, &row[..])
 }

@@ -1,8 +1,8 @@
 -- One variant, read over its anchor if it leans.
 -- Assumes nothing.
 use mathlib.Core.Path.{_≡_, refl, sym, ap, _∙_}
-use mathlib.Core.Bool.{Bool, true, false, _&&_}
-use Prim.Native.Nat.{ℕ, _*_, _≤_, _<_}
+use mathlib.Core.Bool.{Bool, true, false}
+use Prim.Native.Nat.{ℕ, _≤_, _<_}
 use mathlib.Core.List.{List, [], _++_}
 use lib.ListN.{length, take, drop, getD, replicate}
 use lib.Dec.{lit<}
@@ -15,7 +15,7 @@ use Rattle.format.specs.declared.Reply.the-variants.{Accepted, Refused}
 use Rattle.format.specs.Base.{Bytes, Out, ok, refused, bind, map-out}
 use Rattle.format.specs.Limits.{most-samples, variants-to-a-block}
 use Rattle.format.specs.Body.{type-leans, Body, read-body, body-categories}
-use Rattle.format.specs.Variant.{next-variant, block-of, anchor}
+use Rattle.format.specs.Variant.{next-variant, anchor}
 use Rattle.format.specs.Layout.{Layout, LayoutObeys, record-start}
 use Rattle.format.specs.File.{type-of, variant-leans, read-over, read-variant}
 use Rattle.format.proofs.AnchorLaws.{IsAnchor, anchor-is}
@@ -35,13 +35,10 @@ use Rattle.read_file.proofs.Replies.{RowRead, row-accepted, row-refused
 abbrev K : ℕ
 K = variants-to-a-block
 
--- a record that is read, not only checked
-pub read-too : (b : Bool) (N : ℕ) (row : List ℕ) (m : Out Body)
-    → record-replied (b && false) N row m ≡ row-replied N row (map-out (body-categories N (take N row)) m)
-read-too true N row (ok body left) = refl
-read-too false N row (ok body left) = refl
-read-too true N row (refused why) = refl
-read-too false N row (refused why) = refl
+-- a record's categories in a row
+pub read-too : (N : ℕ) (row : List ℕ) (m : Out Body) → record-replied N row m ≡ row-replied N row (map-out (body-categories N (take N row)) m)
+read-too N row (ok body left) = refl
+read-too N row (refused why) = refl
 
 -- what stands behind the first N bytes is all that counts of a row
 same-rest : (N : ℕ) (row row₁ : List ℕ) (m : Out (List ℕ)) → drop N row₁ ≡ drop N row → row-replied N row₁ m ≡ row-replied N row m
@@ -61,7 +58,7 @@ at-layout h g = record {
 
 -- what the code is told of it
 abbrev Told : List ℕ → Fields → Place → List ℕ → List ℕ → Reply → Type 0
-Told held f p row row₁ r = record-left r row₁ ≡ recorded false (f .samples) (p .record_type) (take (p .end) held) (p .start) row
+Told held f p row row₁ r = record-left r row₁ ≡ recorded (f .samples) (p .record_type) (take (p .end) held) (p .start) row
 
 module _ {index held : List ℕ} {f : Fields} (y : Bytes held) where
   module _ {v : FileVariant} {p : Place} (g : Located index held f v p) (row row₁ : List ℕ) (r : Reply) (d : Told held f p row row₁ r) where
@@ -75,8 +72,8 @@ module _ {index held : List ℕ} {f : Fields} (y : Bytes held) where
     unfolding read-over
     over =
         rw (samples-are (g .has .stored) (g .has .fields-are)) at d
-        ∙ recorded-is g false row
-        ∙ read-too (variant-leans l v) N row (read-body (record-start K l (next-variant v)) N (take N row) (type-of l v) (getD (l .bodies) (v .0) []))
+        ∙ recorded-is g row
+        ∙ read-too N row (read-body (record-start K l (next-variant v)) N (take N row) (type-of l v) (getD (l .bodies) (v .0) []))
 
     -- one that leans on none is read alike over the row and over nothing
     over-nothing : variant-leans l v ≡ false → record-left r row₁ ≡ row-replied N row (read-over K l [] v)
@@ -98,7 +95,7 @@ module _ {index held : List ℕ} {f : Fields} (y : Bytes held) where
     abbrev n : ℕ
     n = m .samples
 
-    is-anchor : IsAnchor (m .types) (block-of K v * K) (v .0) (x .0)
+    is-anchor : IsAnchor K (m .types) v x
     is-anchor =
         let o : LayoutObeys K m = h .has .stored .obeys in
         rw (anchored (h .has .stored) a)

@@ -1,7 +1,7 @@
 -- What a reply tells of the format's own reading, and what its caller learns from it.
 -- Assumes nothing.
 use mathlib.Core.Path.{_≡_, refl, sym, ap, _∙_, subst}
-use mathlib.Core.Bool.{Bool, false}
+use mathlib.Core.Bool.{false}
 use Prim.Native.Nat.{ℕ, _≤_, _<_}
 use mathlib.Core.List.{List, _++_}
 use lib.ListN.{length, take, drop, length-append, length-drop}
@@ -24,14 +24,9 @@ use Rattle.format.proofs.CallRefusals.{all-refusals, variant-refusals, record-c
 use Rattle.head_index.proofs.StoredLaws.{stored-bodies}
 use Rattle.head_records.proofs.AcceptedLaws.{samples-are}
 use Rattle.head_places.proofs.AcceptedLaws.{below-in}
-use Rattle.read_record.specs.Recorded.{RecordLeft, record-left, record-replied}
-use Rattle.read_file.specs.Rows.{replied, row-replied, RecordsChecked, VariantRead}
-
-abbrev pub row-of : RecordLeft → List ℕ
-row-of (record-left r row) = row
-
-abbrev pub reply-of : RecordLeft → Reply
-reply-of (record-left r row) = r
+use Rattle.read_record.specs.Recorded.{replied, record-left}
+use Rattle.read_record.proofs.BodyLaws.{reply-of, row-of}
+use Rattle.read_file.specs.Rows.{row-replied, RecordsChecked, VariantRead}
 
 -- accepted, with what was read
 pub record WasRead (A : Type 0) (m : Out A) : Type 0 where
@@ -46,18 +41,6 @@ was-accepted (refused why) e = let z : _≡_ {A = ℕ} 0 1 = cc in absurd (omega
 pub was-refused : {A : Type 0} (m : Out A) (why : Refusal) → replied m ≡ Refused why → m ≡ refused why
 was-refused (ok value left) why e = let z : _≡_ {A = ℕ} 0 1 = cc in absurd (omega arith)
 was-refused (refused other) why e = cc
-
--- of a body that goes into a row, or is only checked over it
-module _ (kept : Bool) (N : ℕ) (row row₁ : List ℕ) (r : Reply) (m : Out Body) (d : record-left r row₁ ≡ record-replied kept N row m) where
-  body-reply : (m : Out Body) → reply-of (record-replied kept N row m) ≡ replied m
-  body-reply (ok body left) = refl
-  body-reply (refused why) = refl
-
-  pub body-accepted : r ≡ Accepted → WasRead Body m
-  body-accepted q = was-accepted m (sym (body-reply m) ∙ sym (ap reply-of d) ∙ q)
-
-  pub body-refused : (why : Refusal) → r ≡ Refused why → m ≡ refused why
-  body-refused why q = was-refused m why (sym (body-reply m) ∙ sym (ap reply-of d) ∙ q)
 
 -- of N categories: they stand in a row's first N bytes
 pub record RowRead (N : ℕ) (row row₁ : List ℕ) (m : Out (List ℕ)) : Type 0 where

@@ -1,13 +1,12 @@
 -- A walk through all records in variant order: what is left to check, and what the row holds.
 -- Assumes nothing.
-use mathlib.Core.Path.{_≡_, refl, sym, ap, _∙_}
-use mathlib.Core.Bool.{Bool, true, false, _&&_}
+use mathlib.Core.Path.{_≡_, refl, sym, ap, _∙_, subst}
+use mathlib.Core.Bool.{Bool, false}
 use Prim.Native.Nat.{ℕ, zero, suc, _+_, _≤_, _<_}
 use native.Mathlib.Nat.{add-zero}
 use mathlib.Core.List.{List, [], _++_}
-use mathlib.Core.Logic.{⊎-elim}
-use lib.ListN.{length, take, drop, replicate, length-replicate}
-use lib.Seq.{drop-at}
+use mathlib.Core.Logic.{_⊎_, ⊎-elim}
+use lib.ListN.{length, take, drop, replicate}
 use lib.Dec.{lit<}
 use mir.Syntax.{w64}
 use mir.Val.{Fits}
@@ -19,15 +18,16 @@ use Rattle.format.specs.declared.Reply.{Reply}
 use Rattle.format.specs.declared.Reply.the-variants.{Accepted, Refused}
 use Rattle.format.specs.Base.{pick, Bytes, Out, ok, refused}
 use Rattle.format.specs.Limits.{most-samples, most-variants, variants-to-a-block}
-use Rattle.format.specs.Body.{kind-of, type-leans, Body, body-categories}
+use Rattle.format.specs.Body.{kind-of, type-leans, Body, read-body, body-categories}
 use Rattle.format.specs.Variant.{file-variant}
 use Rattle.format.specs.Layout.{sum, first-record, Layout, LayoutObeys, fixed-of, record-start}
 use Rattle.format.specs.Reply.{emptied}
-use Rattle.format.specs.File.{read-all, variant-leans}
+use Rattle.format.specs.File.{next-anchor, read-all, variant-leans}
 use Rattle.format.proofs.OffsetsLaws.{from-1-to-positive}
 use Rattle.format.proofs.AnchorLaws.{stands-at}
 use Rattle.format.proofs.FileLaws.{one-type-each}
-use Rattle.head_index.proofs.RecordTurns.{outcome, left-to-check, record-over, then-check, all-left, none-left, turn-check, first-over-any, row-carried}
+use Rattle.head_index.proofs.RecordTurns.{outcome, left-to-check, record-over, then-check, all-left, none-left, turn-check}
+use Rattle.head_index.proofs.RecordTurns.{over-any, next-any, row-after, row-carried}
 use Rattle.head_blocks.specs.Parts.{fixed}
 use Rattle.head_blocks.proofs.Sizes.{known-bytes}
 use Rattle.head_records.specs.Extent.{record-type, record-size}
@@ -36,13 +36,12 @@ use Rattle.head_places.specs.declared.Place.{Place}
 use Rattle.head_places.specs.Located.{HasLayout, Located}
 use Rattle.head_places.proofs.PartLaws.{part-inside}
 use Rattle.head_places.proofs.AcceptedLaws.{variants-few, samples-few, below-in, place-is}
-use Rattle.read_record.specs.Recorded.{record-left, record-replied, recorded}
+use Rattle.read_record.specs.Recorded.{replied, record-left}
 use Rattle.read_check.specs.Next.{next-checked}
-use Rattle.read_check.proofs.NextLaws.{AsIfRead, as-if-read}
-use Rattle.read_check.proofs.OnlyChecked.{next-any}
-use Rattle.read_file.specs.Rows.{HasRow, TypeIfAny, replied, RecordsChecked}
-use Rattle.read_file.proofs.Replies.{row-of, WasRead, body-accepted, body-refused}
-use Rattle.read_file.proofs.Cut.{body-is-bytes, kind-known, cut-end, cut-start, recorded-is}
+use Rattle.read_check.proofs.NextLaws.{next-reply, next-row, next-rest}
+use Rattle.read_file.specs.Rows.{HasRow, TypeIfAny, RecordsChecked}
+use Rattle.read_file.proofs.Replies.{WasRead, was-accepted, was-refused}
+use Rattle.read_file.proofs.Cut.{body-is-bytes, kind-known, cut-end, cut-start, body-is}
 
 abbrev K : ℕ
 K = variants-to-a-block
@@ -53,7 +52,7 @@ pub record Checking (index held : List ℕ) (f : Fields) (row₀ row : List ℕ)
   pub has : HasLayout index held f
   pub reached : v ≤ f .variants
   pub start-is : start ≡ record-start K (has .layout) (file-variant v)
-  pub type-is : TypeIfAny index f v type
+  pub type-is : TypeIfAny index f (file-variant v) type
   pub left-is : left-to-check K (has .layout) v (take (has .layout .samples) row) ≡ outcome (read-all K (has .layout))
   pub rest-is : drop (has .layout .samples) row ≡ drop (has .layout .samples) row₀
   pub variants : f .variants ≤ most-variants
@@ -65,15 +64,6 @@ replied-outcome : {A : Type 0} (m : Out A) → replied (outcome m) ≡ replied m
 replied-outcome (ok a left) = refl
 replied-outcome (refused why) = refl
 
-kept-too : (b : Bool) → b && true ≡ b
-kept-too true = refl
-kept-too false = refl
-
--- what stands behind a row that a refusal leaves
-rest-after : (kept : Bool) (N : ℕ) (row : List ℕ) → drop N (pick kept row (replicate N 0 ++ drop N row)) ≡ drop N row
-rest-after true N row = refl
-rest-after false N row = drop-at (replicate N 0) (drop N row) N (length-replicate N 0)
-
 -- ---- before the loop
 
 module _ {index held : List ℕ} {f : Fields} {row : List ℕ} (h : HasRow index held f row) where
@@ -81,20 +71,22 @@ module _ {index held : List ℕ} {f : Fields} {row : List ℕ} (h : HasRow index
   some-variants = variants-few (h .has)
 
   -- the first record leans on nothing
-  pub check-starts : Bytes held → (start type : ℕ) → start ≡ first-record K (fixed f) → TypeIfAny index f 0 type → Checking index held f row row start 0 type
+  pub check-starts : Bytes held → (start type : ℕ) → start ≡ first-record K (fixed f) → TypeIfAny index f (file-variant 0) type
+      → Checking index held f row row start 0 type
   unfolding record-start sum
   check-starts y start type s t =
       let l : Layout = h .has .layout in
       let o : LayoutObeys K l = h .has .stored .obeys in
       let some : zero < length (l .bodies) = omega (arith, from-1-to-positive most-variants (length (l .bodies)) (o .fixed .variants)) in
-      let first : variant-leans l (file-variant 0) ≡ false = stands-at K (l .types) (lit< tt) (o .types) 0 (omega (arith, one-type-each K l o)) refl in
+      let first : variant-leans l (file-variant 0) ≡ false
+      = stands-at K (l .types) (lit< tt) (o .types) (file-variant 0) (omega (arith, one-type-each K l o)) refl in
       record {
         bytes = y;
         has = h .has;
         reached = omega arith;
         start-is = s ∙ ap (first-record K) (fields-are (h .has .stored) (h .has .fields-are)) ∙ sym (add-zero (first-record K (fixed-of l)));
         type-is = t;
-        left-is = first-over-any K l (lit< tt) o (take (l .samples) row) (body-is-bytes (h .has) y 0) some first ∙ all-left K l;
+        left-is = over-any K l (lit< tt) o 0 (take (l .samples) row) [] (body-is-bytes (h .has) y 0) some first ∙ all-left K l;
         rest-is = refl;
         variants = some-variants;
         samples = samples-few (h .has);
@@ -158,57 +150,67 @@ module _ {index held : List ℕ} {f : Fields} {row₀ row : List ℕ} {start v t
 
     module _ (row₁ : List ℕ) (r : Reply) (after : ℕ)
         (d : record-left r row₁ ≡ next-checked (f .samples) type after (take (start + size) held) start row) where
-      -- the record as if it had been read, and the row that would be made of it
-      abbrev read : AsIfRead (f .samples) type after (take (start + size) held) start row r row₁
-      read = as-if-read (f .samples) type after (take (start + size) held) start row r row₁ d
-
-      abbrev made : List ℕ
-      made = read .made
-
       abbrev body : Out Body
       body = record-over K l v (take N row)
 
-      abbrev kept : Bool
-      kept = variant-leans l here
+      -- what the code read of it
+      abbrev read : Out Body
+      read = read-body (length (take (start + size) held)) (f .samples) (take (f .samples) row) type (drop start (take (start + size) held))
 
-      found : record-left r made ≡ record-replied kept N row body
-      found =
-          read .is ∙ ap (λ (n : ℕ). recorded true n type (take (start + size) held) start row) samples-there
-          ∙ recorded-is there true row
-          ∙ ap (λ (t : Bool). record-replied t N row body) (kept-too kept)
+      read-as : read ≡ body
+      read-as =
+          ap (λ (n : ℕ). read-body (length (take (start + size) held)) n (take n row) type (drop start (take (start + size) held))) samples-there
+          ∙ body-is there (take N row)
+
+      found : r ≡ replied body
+      found = next-reply (f .samples) type after (take (start + size) held) start row r row₁ d ∙ ap replied read-as
 
       -- what is left then
       turn : outcome (read-all K l) ≡ then-check K l v (take N row) body
       turn = sym (w .left-is) ∙ turn-check K l v (take N row) obeyed (below-in (w .has) m)
 
-      -- the row that there is instead: what stands behind stays too
-      behind : drop N made ≡ drop N row → drop N row₁ ≡ drop N row
-      behind e = ⊎-elim (λ same. ap (drop N) same ∙ e) (λ stays. ap (drop N) (stays .0)) (read .held)
+      module _ (x : WasRead Body body) where
+        -- the row that those after it lean on, and what there is of it
+        abbrev made : List ℕ
+        made = row-after K l (lit< tt) obeyed v row (x .value)
 
-      -- and what is left to check is the same over it
-      over-either : TypeIfAny index f (v + 1) after → left-to-check K l (suc v) (take N row₁) ≡ left-to-check K l (suc v) (take N made)
-      over-either t =
-          ⊎-elim (λ same. ap (λ (z : List ℕ). left-to-check K l (suc v) (take N z)) same)
-          (λ stays.
-          ap (λ (z : List ℕ). left-to-check K l (suc v) (take N z)) (stays .0)
-          ∙ next-any K l (lit< tt) obeyed v (take N row) (take N made) (body-is-bytes (w .has) (w .bytes) (suc v)) (below-in (w .has) m)
-          (λ b. stands b (stays .1)))
-          (read .held)
-        where
-          stands : suc v < length (l .bodies) → type-leans after ≡ false → variant-leans l (file-variant (suc v)) ≡ false
-          stands b s =
-              let next : v + 1 ≡ suc v = omega arith in
-              let is : after ≡ record-type K (fixed f) index (file-variant (suc v))
-              = rw next at (t .is (omega (arith, count-is (w .has .stored) (w .has .fields-are)))) in
-              ap type-leans (sym (is ∙ type-is (w .has .stored) (w .has .fields-are) (file-variant (suc v)) b)) ∙ s
+        abbrev Held : ℕ → Bool → Type 0
+        Held n leaning = (row₁ ≡ pick leaning row (body-categories n (take n row) (x .value) ++ drop n row)) ⊎ ((row₁ ≡ row) × (type-leans after ≡ false))
 
-      pub check-goes-on : TypeIfAny index f (v + 1) after → r ≡ Accepted → length row₁ ≡ length row
+        was-held : Held N (variant-leans l here)
+        was-held =
+            subst (Held N) (ap (λ (z : Place). type-leans (z .record_type)) (there .is))
+            (subst (λ (n : ℕ). Held n (type-leans type)) samples-there
+            (next-row (f .samples) type after (take (start + size) held) start row r row₁ d (x .value) (x .left) (read-as ∙ x .is)))
+
+        carried : (take N made ≡ next-anchor (variant-leans l here) (take N row) (body-categories N (take N row) (x .value))) × (drop N made ≡ drop N row)
+        carried = row-carried K l (lit< tt) obeyed v row (x .value) (x .left) (body-is-bytes (w .has) (w .bytes) v) (x .is)
+
+        -- what stands behind stays
+        behind : drop N row₁ ≡ drop N row
+        behind = ⊎-elim (λ same. ap (drop N) same ∙ carried .1) (λ stays. ap (drop N) (stays .0)) was-held
+
+        -- and what is left to check is the same over either row
+        over-either : TypeIfAny index f (file-variant (v + 1)) after → left-to-check K l (suc v) (take N row₁) ≡ left-to-check K l (suc v) (take N made)
+        over-either t =
+            ⊎-elim (λ same. ap (λ (z : List ℕ). left-to-check K l (suc v) (take N z)) same)
+            (λ stays.
+            ap (λ (z : List ℕ). left-to-check K l (suc v) (take N z)) (stays .0)
+            ∙ next-any K l (lit< tt) obeyed v (take N row) (take N made) (body-is-bytes (w .has) (w .bytes) (suc v)) (below-in (w .has) m)
+            (λ b. stands b (stays .1)))
+            was-held
+          where
+            stands : suc v < length (l .bodies) → type-leans after ≡ false → variant-leans l (file-variant (suc v)) ≡ false
+            stands b s =
+                let next : v + 1 ≡ suc v = omega arith in
+                let is : after ≡ record-type K (fixed f) index (file-variant (suc v))
+                = rw next at (t .is (omega (arith, count-is (w .has .stored) (w .has .fields-are)))) in
+                ap type-leans (sym (is ∙ type-is (w .has .stored) (w .has .fields-are) (file-variant (suc v)) b)) ∙ s
+
+      pub check-goes-on : TypeIfAny index f (file-variant (v + 1)) after → r ≡ Accepted → length row₁ ≡ length row
           → Checking index held f row₀ row₁ (start + size) (v + 1) after
       check-goes-on t q g =
-          let x : WasRead Body body = body-accepted kept N row made r body found q in
-          let e : made ≡ pick kept row (body-categories N (take N row) (x .value) ++ drop N row)
-          = ap row-of (found ∙ ap (record-replied kept N row) (x .is)) in
-          let carried = row-carried K l (lit< tt) obeyed v row (x .value) (x .left) (body-is-bytes (w .has) (w .bytes) v) (x .is) in
+          let x : WasRead Body body = was-accepted body (sym found ∙ q) in
           let next : v + 1 ≡ suc v = omega arith in
           record {
             bytes = w .bytes;
@@ -216,8 +218,10 @@ module _ {index held : List ℕ} {f : Fields} {row₀ row : List ℕ} {start v t
             reached = omega arith;
             start-is = rw next (ap (λ (p : Place). p .end) (there .is));
             type-is = t;
-            left-is = rw next (over-either t ∙ rw (e, carried .0) (sym (turn ∙ ap (then-check K l v (take N row)) (x .is))));
-            rest-is = behind (rw e (carried .1)) ∙ w .rest-is;
+            left-is =
+                rw next
+                (over-either x t ∙ ap (left-to-check K l (suc v)) (carried x .0) ∙ sym (turn ∙ ap (then-check K l v (take N row)) (x .is)));
+            rest-is = behind x ∙ w .rest-is;
             variants = w .variants;
             samples = w .samples;
             long = g ∙ w .long;
@@ -228,9 +232,11 @@ module _ {index held : List ℕ} {f : Fields} {row₀ row : List ℕ} {start v t
       pub check-stops : (why : Refusal) → r ≡ Refused why → (last : List ℕ) → last ≡ emptied (f .samples) row₁
           → RecordsChecked index held f row₀ (Refused why) last
       check-stops why q last g =
-          let x : body ≡ refused why = body-refused kept N row made r body found why q in
-          let e : made ≡ pick kept row (replicate N 0 ++ drop N row) = ap row-of (found ∙ ap (record-replied kept N row) x) in
-          settled (refused why) (turn ∙ ap (then-check K l v (take N row)) x) row₁ last (behind (rw e (rest-after kept N row)) ∙ w .rest-is) g
+          let x : body ≡ refused why = was-refused body why (sym found ∙ q) in
+          let behind : drop N row₁ ≡ drop N row
+          = subst (λ (n : ℕ). drop n row₁ ≡ drop n row) samples-there
+          (next-rest (f .samples) type after (take (start + size) held) start row r row₁ d why (read-as ∙ x)) in
+          settled (refused why) (turn ∙ ap (then-check K l v (take N row)) x) row₁ last (behind ∙ w .rest-is) g
 
 pub ruleset check-laws =
     (known-bytes, some-variants, check-starts, end-fits, end-is, body-inside, kind-there, check-goes-on, check-stops, check-ends)

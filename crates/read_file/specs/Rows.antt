@@ -11,14 +11,13 @@ use Rattle.format.specs.declared.Reply.{Reply}
 use Rattle.format.specs.declared.Reply.the-variants.{Accepted, Refused}
 use Rattle.format.specs.Base.{Out, ok, refused}
 use Rattle.format.specs.Limits.{variants-to-a-block}
-use Rattle.format.specs.Variant.{file-variant}
 use Rattle.format.specs.Layout.{Layout}
 use Rattle.format.specs.Reply.{emptied}
 use Rattle.format.specs.File.{read-all, read-variant}
 use Rattle.head_blocks.specs.Parts.{fixed}
 use Rattle.head_records.specs.Extent.{record-type}
 use Rattle.head_places.specs.Located.{HasLayout, HasVariant}
-use Rattle.read_record.specs.Recorded.{RecordLeft, record-left}
+use Rattle.read_record.specs.Recorded.{replied, RecordLeft, record-left}
 
 -- ---- what is given
 
@@ -35,15 +34,10 @@ pub record HasVariantRow (index held : List ℕ) (f : Fields) (v : FileVariant) 
 -- ---- what is found
 
 -- the type of variant v, if there is one
-pub record TypeIfAny (index : List ℕ) (f : Fields) (v type : ℕ) : Type 0 where
-  pub is : v < f .variants → type ≡ record-type variants-to-a-block (fixed f) index (file-variant v)
+pub record TypeIfAny (index : List ℕ) (f : Fields) (v : FileVariant) (type : ℕ) : Type 0 where
+  pub is : v .0 < f .variants → type ≡ record-type variants-to-a-block (fixed f) index v
 
 -- ---- what is left
-
--- accepted or refused, and how
-abbrev pub replied : {A : Type 0} → Out A → Reply
-replied (ok a left) = Accepted
-replied (refused why) = Refused why
 
 -- every record, in variant order
 abbrev pub all-checked : Layout → List ℕ → RecordLeft

@@ -2,6 +2,7 @@
 ghost use Prim.Native.Nat.{_≤_};
 ghost use Rattle.format.specs.Limits.{most-variants};
 ghost use Rattle.read_file.specs.Rows.{HasRow, HasVariantRow, TypeIfAny, RecordsChecked, VariantRead};
+use base_cursor::Cursor;
 use base_rows::clear;
 use format::Fields;
 use format::FileVariant;
@@ -16,12 +17,12 @@ use read_check::check_next;
 use read_record::read_body;
 
 // The type of variant v. Past the last one there is none, and 0 stands for it, a type that leans on no record.
-fn type_if_any(index: &[u8], f: Fields, v: usize) -> u8
+fn type_if_any(index: &[u8], f: Fields, v: FileVariant) -> u8
     requires { ⌜ f .variants ≤ most-variants ⌝ }
     ensures { λ r. ⌜ TypeIfAny (now (index .entry)) f v r ⌝ }
 {
-    if v < f.variants {
-        return type_of(index, f, FileVariant(v));
+    if v.0 < f.variants {
+        return type_of(index, f, v);
     }
     0
 }
@@ -37,11 +38,12 @@ pub fn check_records(index: &[u8], held: &[u8], f: Fields, row: &mut [u8]) -> Re
     let n = f.samples;
     let mut start = first_record(f);
     let mut v: usize = 0;
-    let mut record_type = type_if_any(index, f, v);
+    let mut record_type = type_if_any(index, f, FileVariant(v));
     while v < m {
         let end = start + size_of(index, f, FileVariant(v));
-        let after = type_if_any(index, f, v + 1);
-        let got = check_next(&held[..end], start, n, record_type, after, row);
+        let after = type_if_any(index, f, FileVariant(v + 1));
+        let here = Cursor { at: start };
+        let got = check_next(&held[..end], here, n, record_type, after, row);
         match got {
             Reply::Refused(why) => {
                 clear(row, n);
@@ -66,15 +68,17 @@ pub fn read_row(index: &[u8], held: &[u8], f: Fields, v: FileVariant, row: &mut 
     let n = f.samples;
     let p = place_of(index, held, f, v);
     let end = p.end;
+    let here = Cursor { at: p.start };
     if type_leans(p.record_type) {
         let a = place_of(index, held, f, anchor_of(index, held, f, v));
         let a_end = a.end;
-        let got = read_body(&held[..a_end], a.start, n, a.record_type, false, row);
+        let there = Cursor { at: a.start };
+        let got = read_body(&held[..a_end], there, n, a.record_type, row);
         match got {
             Reply::Refused(why) => Reply::Refused(why),
-            Reply::Accepted => read_body(&held[..end], p.start, n, p.record_type, false, row),
+            Reply::Accepted => read_body(&held[..end], here, n, p.record_type, row),
         }
     } else {
-        read_body(&held[..end], p.start, n, p.record_type, false, row)
+        read_body(&held[..end], here, n, p.record_type, row)
     }
 }

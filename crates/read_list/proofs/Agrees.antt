@@ -3,21 +3,20 @@
 use mathlib.Core.Path.{_≡_, refl, sym, ap, _∙_}
 use Prim.Native.Nat.{ℕ, zero, suc, _≤_, _<_}
 use native.Mathlib.Omega.{arith}
-use mathlib.Core.Bool.{Bool, true, false}
 use mathlib.Core.List.{List, [], _∷_, _++_}
 use lib.ListN.{getD, length, set, drop, take, replicate, length-set, take-append-drop}
 use lib.Seq.{set-append-left, getD-take, length-take-le}
 use Rattle.format.specs.declared.Refusal.{Refusal}
-use Rattle.format.specs.Base.{pick, Out, ok, refused}
-use Rattle.format.specs.Difflist.{Entry, Rule, Rising, number-width, read-list}
+use Rattle.format.specs.Base.{Out, ok, refused}
+use Rattle.format.specs.Difflist.{Entry, Rule, Rising, number-width}
 use Rattle.format.specs.Track.{rule, apply}
 use Rattle.format.proofs.Rules.{Holds, below-drop}
 use Rattle.format.proofs.DifflistLaws.{IsList, list-as-written}
 use Rattle.base_cursor.proofs.ByteLaws.{bytes-of}
 use Rattle.base_cursor.specs.declared.Cursor.{Cursor}
 use Rattle.read_list.specs.Entries.{list-left}
-use Rattle.read_list.specs.Parts.{list-run}
-use Rattle.read_list.specs.Listed.{may-hold, list-replied, listed}
+use Rattle.read_list.specs.Parts.{put-parts}
+use Rattle.read_list.specs.Listed.{may-hold, list-at, list-replied, listed}
 use Rattle.read_list.specs.declared.ListRule.{ListRule}
 use Rattle.read_list.specs.declared.ListStep.{ListStep}
 use Rattle.read_list.specs.declared.ListStep.the-variants.{Listed, Refused}
@@ -39,11 +38,10 @@ apply-within u es n row e h g =
     let k : u .samples ≤ length (take n row) = omega (arith, length-take-le n row h) in
     rw (take-append-drop n row) at (apply-first u 0 es (take n row) (drop n row) g k)
 
-within : (store : Bool) (u : Rule) (w end n : ℕ) (bs row : List ℕ) → u .samples ≡ n → n ≤ length row
-    → (o : Out (List Entry)) → Holds (IsList u w bs) o → applied store end n row o ≡ list-replied store end n row o
-within true u w end n bs row e h (ok es left) k = rw (apply-within u es n row e h (k .rising))
-within false u w end n bs row e h (ok es left) k = refl
-within store u w end n bs row e h (refused why) k = refl
+within : (u : Rule) (w end n : ℕ) (bs row : List ℕ) → u .samples ≡ n → n ≤ length row
+    → (o : Out (List Entry)) → Holds (IsList u w bs) o → applied end n row o ≡ list-replied end n row o
+within u w end n bs row e h (ok es left) k = rw (apply-within u es n row e h (k .rising))
+within u w end n bs row e h (refused why) k = refl
 
 -- inside a list the default does not matter
 getD-any : (l : List ℕ) (j : ℕ) → j < length l → getD l j 0 ≡ getD l j 1
@@ -51,36 +49,29 @@ getD-any [] j h = absurd (omega arith)
 getD-any (x ∷ l) zero h = refl
 getD-any (x ∷ l) (suc j) h = getD-any l j (omega arith)
 
-against : (n : ℕ) (row : List ℕ) → n ≤ length row → (j : ℕ) → j < n → getD row j 0 ≡ getD (take n row) j 1
+pub against : (n : ℕ) (row : List ℕ) → n ≤ length row → (j : ℕ) → j < n → getD row j 0 ≡ getD (take n row) j 1
 against n row h j i = getD-any row j (omega arith) ∙ sym (getD-take n row j 1 i)
 
-agrees : (l : List ℕ) (at n : ℕ) (store : Bool) (held : ListRule) (row : List ℕ) → ((i : ℕ) → getD l i 0 < 256) → at ≤ length l → n ≤ length row
-    → cleared store n (list-run l at n store held row) ≡ listed store held n l at row
+agrees : (l : List ℕ) (at n : ℕ) (held : ListRule) (row : List ℕ) → ((i : ℕ) → getD l i 0 < 256) → at ≤ length l → n ≤ length row
+    → cleared n (put-parts held n l at row) ≡ listed held n l at row
 unfolding listed
-agrees l at n store held row y a h =
+agrees l at n held row y a h =
     let u : Rule = rule n (may-hold held (take n row)) in
-    let o : Out (List Entry) = read-list u (number-width n) (length l) (drop at l) in
-    list-agrees l y n store held (take n row) row (against n row h) at a
-    ∙ within store u (number-width n) (length l) n (drop at l) row refl h o
+    list-agrees l y n held (take n row) row (against n row h) at a
+    ∙ within u (number-width n) (length l) n (drop at l) row refl h (list-at held n l at row)
     (list-as-written u (number-width n) (length l) (drop at l) (below-drop 256 at l (bytes-of l y)))
 
--- the ways out of `apply_list`: r and `new` are what `run_list` gave
-module _ (l : List ℕ) (at n : ℕ) (store : Bool) (held : ListRule) (row : List ℕ) (r : ListStep) (new : List ℕ)
-    (e : list-left r new ≡ list-run l at n store held row) (known : Known l) (a : at ≤ length l) (h : n ≤ length row) where
-  run : cleared store n (list-left r new) ≡ listed store held n l at row
-  run = ap (cleared store n) e ∙ agrees l at n store held row (λ i. known i .fits) a h
+-- the ways out of `put_list`: r and `new` are what `put_parts` gave
+module _ (l : List ℕ) (at n : ℕ) (held : ListRule) (row : List ℕ) (r : ListStep) (new : List ℕ)
+    (e : list-left r new ≡ put-parts held n l at row) (known : Known l) (a : at ≤ length l) (h : n ≤ length row) where
+  run : cleared n (list-left r new) ≡ listed held n l at row
+  run = ap (cleared n) e ∙ agrees l at n held row (λ i. known i .fits) a h
 
-  pub end-listed : (c : Cursor) → r ≡ Listed c → list-left (Listed c) new ≡ listed store held n l at row
+  pub end-listed : (c : Cursor) → r ≡ Listed c → list-left (Listed c) new ≡ listed held n l at row
   end-listed c q = rw q at run
 
-  abbrev left : List ℕ
-  left = pick store (replicate n 0 ++ drop n new) new
+  pub end-cleared : (why : Refusal) (last : List ℕ) → r ≡ Refused why → last ≡ replicate n 0 ++ drop n new
+      → list-left (Refused why) last ≡ listed held n l at row
+  end-cleared why last q f = rw f (rw q at run)
 
-  pub end-cleared : (why : Refusal) (last : List ℕ) → r ≡ Refused why → store ≡ true → last ≡ replicate n 0 ++ drop n new
-      → list-left (Refused why) last ≡ listed store held n l at row
-  end-cleared why last q s f = let z : last ≡ left = rw s f in rw z (rw q at run)
-
-  pub end-kept : (why : Refusal) → r ≡ Refused why → store ≡ false → list-left (Refused why) new ≡ listed store held n l at row
-  end-kept why q s = let z : left ≡ new = rw s in rw z at (rw q at run)
-
-pub ruleset apply-laws = (end-listed, end-cleared, end-kept)
+pub ruleset list-laws = (end-listed, end-cleared)

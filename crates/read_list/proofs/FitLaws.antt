@@ -4,43 +4,22 @@ use mathlib.Core.Path.{_≡_, refl, _∙_}
 use Prim.Native.Nat.{ℕ, zero, suc, _+_, _*_, _≤_, _<_}
 use native.Mathlib.Omega.{arith}
 use native.Mathlib.Nat.{mul-suc, mul-zero, add-zero}
-use native.Mathlib.Numerals.{add-one}
 use mathlib.Core.List.{List, [], _∷_}
-use lib.ListN.{length, drop, drop-of-length-le}
-use lib.Seq.{drop-cons}
+use lib.ListN.{length, drop}
 use Rattle.format.specs.Base.{ok, refuse}
 use Rattle.format.proofs.Rules.{split}
 use Rattle.format.specs.Numbers.{read-number, read-numbers, read-bytes}
-use Rattle.read_list.specs.Entries.{number-at}
+use Rattle.head_index.proofs.ByIndex.{number-there-at, number-short-at}
 use Rattle.read_list.proofs.EntriesAgree.{numbers-of}
 
 module _ (l : List ℕ) where
-  none : (at : ℕ) → length l ≤ at → drop at l ≡ []
-  none at h = drop-of-length-le l h
-
-  le-fits : (w at : ℕ) → at + w ≤ length l → read-number (length l) w (drop at l) ≡ ok (number-at w l at) (drop (at + w) l)
-  unfolding read-number number-at
-  le-fits zero at h = rw (add-zero at)
-  le-fits (suc w) at h =
-      let p : at < length l = omega arith in
-      let e : suc at + w ≡ at + suc w = omega arith in
-      simp (drop-cons l at 0 p, add-one, le-fits w (suc at) (omega arith), e)
-
-  le-short : (w at : ℕ) → length l < at + w → at ≤ length l → read-number (length l) w (drop at l) ≡ refuse 12 (length l)
-  unfolding read-number
-  le-short zero at h g = absurd (omega arith)
-  le-short (suc w) at h g =
-      split (suc at) (length l)
-      (λ p. simp (drop-cons l at 0 p, le-short w (suc at) (omega arith) p))
-      (λ p. rw (none at (omega arith)))
-
   pub row-fits : (w g at : ℕ) → at + w * g ≤ length l → read-numbers (length l) w g (drop at l) ≡ ok (numbers-of g w l at) (drop (at + w * g) l)
   unfolding read-numbers numbers-of
   row-fits w zero at h = rw (mul-zero w, add-zero at)
   row-fits w (suc g) at h =
       let s : w * suc g ≡ w * g + w = mul-suc w g in
       let e : at + w + w * g ≡ at + w * suc g = omega arith in
-      simp (le-fits w at (omega arith), row-fits w g (at + w) (omega arith), e)
+      simp (number-there-at (length l) w at l (omega arith), row-fits w g (at + w) (omega arith), e)
 
   pub row-short : (w g at : ℕ) → length l < at + w * g → at ≤ length l → read-numbers (length l) w g (drop at l) ≡ refuse 12 (length l)
   unfolding read-numbers
@@ -48,8 +27,8 @@ module _ (l : List ℕ) where
   row-short w (suc g) at h a =
       let s : w * suc g ≡ w * g + w = mul-suc w g in
       split (at + w) (length l)
-      (λ p. simp (le-fits w at p, row-short w g (at + w) (omega arith) p))
-      (λ p. simp (le-short w at p a))
+      (λ p. simp (number-there-at (length l) w at l p, row-short w g (at + w) (omega arith) p))
+      (λ p. simp (number-short-at (length l) w at l p a))
 
 -- bytes are numbers of one byte
 bytes-are : (end k : ℕ) (bs : List ℕ) → read-bytes end k bs ≡ read-numbers end 1 k bs

@@ -3,11 +3,10 @@ pub mod SampleLaws
 pub mod EntryLaws
 pub mod RoomLaws
 pub mod LoopLaws
+pub mod CheckLaws
 pub mod WholeLaws
 pub mod EntriesAgree
 pub mod FitLaws
 pub mod ListAgrees
 pub mod Agrees
 pub mod CheckAgrees
-pub mod CheckLaws
-pub mod CheckListLaws

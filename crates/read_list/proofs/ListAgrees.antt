@@ -6,8 +6,8 @@ use native.Mathlib.Omega.{arith}
 use native.Mathlib.Nat.{mul-suc}
 use native.Mathlib.Decide.{ℕ-discrete}
 use mathlib.Core.List.{List}
-use mathlib.Core.Bool.{Bool}
-use lib.ListN.{getD, length, drop}
+use lib.ListN.{getD, length, set, drop}
+use lib.Seq.{getD-set-other}
 use lib.Dec.{eqb}
 use borrow.Author.Tests.{le-leb, lt-leb, eq-eqb, ne-eqb}
 use Rattle.format.specs.Base.{pick, Out, ok, refuse, bind, place-of}
@@ -16,49 +16,61 @@ use Rattle.format.specs.Packed.{two, read-packed-after, read-packed}
 use Rattle.format.specs.Difflist.{Entry, Rule, number-width, groups, read-first, read-parts, read-list}
 use Rattle.format.specs.Track.{rule}
 use Rattle.format.proofs.Rules.{split}
-use Rattle.read_packed.specs.Arrays.{unused, tabulate}
+use Rattle.head_index.specs.NumbersAt.{digits-at}
+use Rattle.read_packed.specs.Arrays.{number-in, unused}
 use Rattle.read_packed.proofs.ReadsAt.{array-fits, array-unused, array-short}
-use Rattle.base_cursor.specs.Steps.{varint-at}
+use Rattle.base_cursor.specs.Steps.{cursor-at, varint-at}
 use Rattle.base_cursor.proofs.ByteLaws.{here}
 use Rattle.base_cursor.proofs.VarintLaws.{Read, was-read, was-refused}
 use Rattle.base_cursor.specs.declared.Cursor.{Cursor}
 use Rattle.base_cursor.specs.declared.VarintStep.{VarintStep}
 use Rattle.base_cursor.specs.declared.VarintStep.the-variants.{Value, Refused}
-use Rattle.read_list.specs.Entries.{value-at, kept, all-entries, ListLeft, list-left, bump}
-use Rattle.read_list.specs.Parts.{count-of, sizes-at, values-at, steps-at, first-at, lay-out, laid-out, counted-out, list-run}
+use Rattle.read_list.specs.Entries.{value-at, put-entries, ListLeft, list-left, bump}
+use Rattle.read_list.specs.Parts.{count-of, sizes-at, values-at, steps-at, first-at, lay-out, laid-out, counted-out, put-parts}
 use Rattle.read_list.specs.Listed.{may-hold}
 use Rattle.read_list.specs.declared.ListRule.{ListRule}
 use Rattle.read_list.specs.declared.State.{State}
+use Rattle.read_list.specs.declared.PartsStep.{PartsStep}
+use Rattle.read_list.specs.declared.ListStep.{ListStep}
 use Rattle.read_list.specs.declared.ListStep.the-variants.{Listed}
-use Rattle.read_list.proofs.EntriesAgree.{numbers-of, values-of, pick-same, getD-kept, applied, cleared, head-of, head-agrees, walk-agrees, parts}
-use Rattle.read_list.proofs.SampleLaws.{is-first}
+use Rattle.read_list.proofs.EntriesAgree.{numbers-of, values-of, applied, cleared, head-of, head-agrees, walk-agrees, parts}
+use Rattle.read_list.proofs.SampleLaws.{is-head, is-first}
 use Rattle.read_list.proofs.FitLaws.{row-fits, row-short, bytes-fits, bytes-short}
 
 -- `base` is what the list is against; the row holds it
-module _ (l : List ℕ) (y : (i : ℕ) → getD l i 0 < 256) (n : ℕ) (store : Bool) (held : ListRule) (base work : List ℕ)
+module _ (l : List ℕ) (y : (i : ℕ) → getD l i 0 < 256) (n : ℕ) (held : ListRule) (base work : List ℕ)
     (against : (j : ℕ) → j < n → getD work j 0 ≡ getD base j 1) where
   abbrev asked : Rule
   asked = rule n (may-hold held base)
 
   abbrev Same : ListLeft → Out (List Entry) → Type 0
-  Same o m = cleared store n o ≡ applied store (length l) n work m
+  Same o m = cleared n o ≡ applied (length l) n work m
+
+  abbrev stop : ListStep → ListLeft
+  stop r = list-left r work
+
+  abbrev entries : ℕ → ℕ → State → ListLeft
+  entries m vals st = put-entries m l n vals held st work
+
+  abbrev laid : PartsStep → ℕ → ListLeft
+  laid d m = laid-out stop (entries m) d
 
   -- the first group begins with no size byte before it
   module _ (at size steps v : ℕ) (i : steps ≤ length l) where
     abbrev reads-first : ℕ → ℕ → ℕ → ℕ → Out (List Entry)
     reads-first m g g′ he =
-        read-first asked (parts l y n store held base v he m) (numbers-of g (number-width n) l at) (numbers-of g′ 1 l size) (values-of m l v 0) (drop steps l)
+        read-first asked (parts l y n held base v he m) (numbers-of g (number-width n) l at) (numbers-of g′ 1 l size) (values-of m l v 0) (drop steps l)
 
     start-agrees : (m g : ℕ) → suc g ≡ groups (suc m) → size + g ≡ v
-        → Same (all-entries (suc m) l n v store held (first-at at size steps) work) (reads-first (suc m) (suc g) g (at + number-width n * suc g))
-    unfolding all-entries read-first numbers-of tabulate
+        → Same (put-entries (suc m) l n v held (first-at at size steps) work) (reads-first (suc m) (suc g) g (at + number-width n * suc g))
+    unfolding put-entries read-first numbers-of digits-at number-in
     start-agrees m g e s =
         let he : ℕ = at + number-width n * suc g in
         let st : State = first-at at size steps in
-        let t : State = head-of l y n store held base v he (suc m) size st in
-        rw (is-first l n st refl refl)
-        (head-agrees l y n store held base v he (suc m) 0 size m g st work (omega arith) refl (λ h f. against _ f)
-        (λ h f. walk-agrees l y n store held base v he (suc m) m 63 g 0 (bump t) (kept store work (t .last) (value-at l v 0))
+        let t : State = head-of l y n held base v he (suc m) (cursor-at size) st in
+        rw (is-head l n st refl, ← is-first l n st _ _ _ refl refl refl refl)
+        (head-agrees l y n held base v he (suc m) 0 (cursor-at size) m g st work (omega arith) refl (λ h f. against _ f)
+        (λ h f. walk-agrees l y n held base v he (suc m) m 63 g 0 (bump t) (set work (t .last) (value-at l v 0))
         (record {
           left-is = refl;
           group = omega arith;
@@ -69,11 +81,11 @@ module _ (l : List ℕ) (y : (i : ℕ) → getD l i 0 < 256) (n : ℕ) (store : 
           heads-end = omega (arith, mul-suc (number-width n) g);
           sizes-end = s;
           counts = omega arith;
-          later = λ j o i. getD-kept store work (t .last) j (value-at l v 0) (λ q. omega arith) ∙ against j i;
+          later = λ j o i. getD-set-other work (t .last) j (value-at l v 0) 0 (λ q. omega arith) ∙ against j i;
         })))
 
     start-from : (m g he m′ g′ : ℕ) → m ≡ suc m′ → g ≡ suc g′ → he ≡ at + number-width n * suc g′ → suc g′ ≡ groups (suc m′) → size + g′ ≡ v
-        → Same (all-entries m l n v store held (first-at at size steps) work) (reads-first m g g′ he)
+        → Same (put-entries m l n v held (first-at at size steps) work) (reads-first m g g′ he)
     start-from m g he m′ g′ a b c d e = rw (a, b, c) (start-agrees m′ g′ d e)
 
   module _ (m at : ℕ) (i : at ≤ length l) (p : 0 < m) where
@@ -88,7 +100,7 @@ module _ (l : List ℕ) (y : (i : ℕ) → getD l i 0 < 256) (n : ℕ) (store : 
 
     body-fits : steps ≤ length l → read-parts asked (number-width n) (length l) m (drop at l)
         ≡ bind (read-packed (length l) two m (drop values l)) (λ vs left.
-        read-first asked (parts l y n store held base values sizes m) (numbers-of (groups m) (number-width n) l at)
+        read-first asked (parts l y n held base values sizes m) (numbers-of (groups m) (number-width n) l at)
         (numbers-of (groups m - 1) 1 l sizes) vs left)
     unfolding read-parts
     body-fits h =
@@ -105,20 +117,20 @@ module _ (l : List ℕ) (y : (i : ℕ) → getD l i 0 < 256) (n : ℕ) (store : 
         (λ v. simp (row-fits l (number-width n) (groups m) at s, bytes-short l (groups m - 1) sizes v s)))
         (λ s. simp (row-short l (number-width n) (groups m) at s i))
 
-    lay-short : length l < steps → Same (laid-out (lay-out l n m at) m l n store held work) (refuse 12 (length l))
+    lay-short : length l < steps → Same (laid (lay-out l n m at) m) (refuse 12 (length l))
     unfolding lay-out
     lay-short h = simp (lt-leb steps (length l) h)
 
-    lay-spare : steps ≤ length l → (unused two l values m ≡ 0 → ⊥) → Same (laid-out (lay-out l n m at) m l n store held work) (refuse 18 (steps - 1))
+    lay-spare : steps ≤ length l → (unused two l values m ≡ 0 → ⊥) → Same (laid (lay-out l n m at) m) (refuse 18 (steps - 1))
     unfolding lay-out
     lay-spare h z = simp (le-leb steps (length l) h, ne-eqb (unused two l values m) 0 z)
 
     lay-fits : steps ≤ length l → unused two l values m ≡ 0
-        → laid-out (lay-out l n m at) m l n store held work ≡ all-entries m l n values store held (first-at at sizes steps) work
+        → laid (lay-out l n m at) m ≡ put-entries m l n values held (first-at at sizes steps) work
     unfolding lay-out
     lay-fits h z = simp (le-leb steps (length l) h, eq-eqb (unused two l values m) 0 z)
 
-    body-agrees : Same (laid-out (lay-out l n m at) m l n store held work) (read-parts asked (number-width n) (length l) m (drop at l))
+    body-agrees : Same (laid (lay-out l n m at) m) (read-parts asked (number-width n) (length l) m (drop at l))
     body-agrees =
         split steps (length l)
         (λ h. rw (body-fits h) (elim (ℕ-discrete (unused two l values m) 0) [
@@ -134,14 +146,14 @@ module _ (l : List ℕ) (y : (i : ℕ) → getD l i 0 < 256) (n : ℕ) (store : 
         (λ h. rw (body-short h) (lay-short h))
 
   none : (m : ℕ) (c : Cursor) → m ≡ 0 → c .at ≤ length l
-      → Same (pick (eqb m 0) (list-left (Listed c) work) (laid-out (lay-out l n m (c .at)) m l n store held work))
+      → Same (pick (eqb m 0) (list-left (Listed c) work) (laid (lay-out l n m (c .at)) m))
       (read-parts asked (number-width n) (length l) m (drop (c .at) l))
   unfolding read-parts read-numbers read-bytes read-packed-after read-first
-  none zero c z h = let e : length l - length (drop (c .at) l) ≡ c .at = here l (c .at) h in rw (e, pick-same)
+  none zero c z h = let e : length l - length (drop (c .at) l) ≡ c .at = here l (c .at) h in rw e
   none (suc m) c z h = absurd (omega arith)
 
   list-by : (at : ℕ) (r : VarintStep) → varint-at l at ≡ r → at ≤ length l
-      → Same (counted-out (count-of r n at) l n store held work) (read-list asked (number-width n) (length l) (drop at l))
+      → Same (counted-out stop entries l n (count-of r n at)) (read-list asked (number-width n) (length l) (drop at l))
   unfolding count-of read-list
   list-by at (Refused why) e i = rw (was-refused l at why (sym e))
   list-by at (Value m c) e i =
@@ -155,6 +167,6 @@ module _ (l : List ℕ) (y : (i : ℕ) → getD l i 0 < 256) (n : ℕ) (store : 
       (λ h. simp (lt-leb m n h)))
 
   pub list-agrees : (at : ℕ) → at ≤ length l
-      → Same (list-run l at n store held work) (read-list asked (number-width n) (length l) (drop at l))
-  unfolding list-run
+      → Same (put-parts held n l at work) (read-list asked (number-width n) (length l) (drop at l))
+  unfolding put-parts
   list-agrees at i = list-by at (varint-at l at) refl i

@@ -4,7 +4,7 @@ use Prim.Native.Nat.{ℕ}
 use mathlib.Core.Bool.{Bool}
 use mathlib.Core.List.{List, _++_}
 use lib.ListN.{length, getD, take, drop, replicate}
-use Rattle.format.specs.Base.{pick, Out, ok, refused}
+use Rattle.format.specs.Base.{Out, ok, refused}
 use Rattle.format.specs.Difflist.{Entry, number-width, read-list}
 use Rattle.format.specs.Track.{rule, apply}
 use Rattle.base_cursor.specs.Steps.{before}
@@ -16,11 +16,14 @@ use Rattle.read_list.specs.declared.ListStep.the-variants.{Listed, Refus
 abbrev pub may-hold : ListRule → List ℕ → ℕ → ℕ → Bool
 may-hold held categories sample value = allows held (getD categories sample 1) value
 
--- an accepted list is applied to the row's first n bytes; after a refusal they are zero. Without `store` the row stays.
-abbrev pub list-replied : Bool → ℕ → ℕ → List ℕ → Out (List Entry) → ListLeft
-list-replied store end n row (ok es left) = list-left (Listed (before end left)) (pick store (apply es (take n row) ++ drop n row) row)
-list-replied store end n row (refused why) = list-left (Refused why) (pick store (replicate n 0 ++ drop n row) row)
+-- the format's own list at `at`, over n samples, of a record that ends where the list l does
+abbrev pub list-at : ListRule → ℕ → List ℕ → ℕ → List ℕ → Out (List Entry)
+list-at held n l at row = read-list (rule n (may-hold held (take n row))) (number-width n) (length l) (drop at l)
 
--- the list at `at`, over n samples, of a record that ends where the list l does
-unfoldable pub listed : Bool → ListRule → ℕ → List ℕ → ℕ → List ℕ → ListLeft
-listed store held n l at row = list-replied store (length l) n row (read-list (rule n (may-hold held (take n row))) (number-width n) (length l) (drop at l))
+-- an accepted list is applied to the row's first n bytes; after a refusal they are zero
+abbrev pub list-replied : ℕ → ℕ → List ℕ → Out (List Entry) → ListLeft
+list-replied end n row (ok es left) = list-left (Listed (before end left)) (apply es (take n row) ++ drop n row)
+list-replied end n row (refused why) = list-left (Refused why) (replicate n 0 ++ drop n row)
+
+unfoldable pub listed : ListRule → ℕ → List ℕ → ℕ → List ℕ → ListLeft
+listed held n l at row = list-replied (length l) n row (list-at held n l at row)

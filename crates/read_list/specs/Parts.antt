@@ -1,24 +1,24 @@
 -- The whole list by position: its count, where its parts stand, its entries. (That this is the format's own reading is proofs/Agrees.)
 -- Assumes nothing.
 use Prim.Native.Nat.{ℕ, _+_, _-_, _*_, _/_}
-use mathlib.Core.Bool.{Bool}
 use mathlib.Core.List.{List}
 use lib.ListN.{length}
 use lib.Dec.{leb, eqb}
 use Rattle.format.specs.Base.{pick, refusal}
 use Rattle.format.specs.Difflist.{groups, number-width}
 use Rattle.format.specs.Packed.{two}
-use Rattle.base_cursor.specs.Steps.{varint-at}
+use Rattle.base_cursor.specs.Steps.{cursor-at, varint-at}
 use Rattle.base_cursor.specs.declared.VarintStep.{VarintStep}
 use Rattle.base_cursor.specs.declared.VarintStep.the-variants as varint
 use Rattle.read_packed.specs.Arrays.{unused}
-use Rattle.read_list.specs.Entries.{ListLeft, list-left, all-entries}
+use Rattle.read_list.specs.Entries.{ListLeft, list-left, put-entries, check-entries}
 use Rattle.read_list.specs.declared.ListRule.{ListRule}
 use Rattle.read_list.specs.declared.State.{State}
 use Rattle.read_list.specs.declared.CountStep.{CountStep}
 use Rattle.read_list.specs.declared.CountStep.the-variants as count
 use Rattle.read_list.specs.declared.PartsStep.{PartsStep}
 use Rattle.read_list.specs.declared.PartsStep.the-variants as parts
+use Rattle.read_list.specs.declared.ListStep.{ListStep}
 use Rattle.read_list.specs.declared.ListStep.the-variants as list
 
 -- the count, from what its varint at `at` reads as
@@ -38,7 +38,8 @@ steps-at n m at = values-at n m at + (m + 3) / 4
 
 -- the place before the first entry: no group has begun, and the first has no size byte before it
 abbrev pub first-at : ℕ → ℕ → ℕ → State
-first-at heads sizes steps = record { room = 0; from = steps; last = 0; head = heads; size = sizes; passed = 0; at = steps }
+first-at heads sizes steps =
+    record { room = 0; from = cursor-at steps; last = 0; head = cursor-at heads; size = cursor-at sizes; passed = 0; at = cursor-at steps }
 
 unfoldable pub lay-out : List ℕ → ℕ → ℕ → ℕ → PartsStep
 lay-out l n m at =
@@ -48,13 +49,20 @@ lay-out l n m at =
     (parts.Refused (refusal 18 (steps-at n m at - 1))))
     (parts.Refused (refusal 12 (length l)))
 
-abbrev pub laid-out : PartsStep → ℕ → List ℕ → ℕ → Bool → ListRule → List ℕ → ListLeft
-laid-out (parts.Refused why) m l n store held row = list-left (list.Refused why) row
-laid-out (parts.Fits vals st) m l n store held row = all-entries m l n vals store held st row
+-- a whole list: what its entries come to, from their count, where their values start and the place before the first, and what `stop` makes of an answer
+-- before them
+abbrev pub laid-out : {X : Type 0} → (ListStep → X) → (ℕ → State → X) → PartsStep → X
+laid-out stop entries (parts.Refused why) = stop (list.Refused why)
+laid-out stop entries (parts.Fits vals st) = entries vals st
 
-abbrev pub counted-out : CountStep → List ℕ → ℕ → Bool → ListRule → List ℕ → ListLeft
-counted-out (count.Refused why) l n store held row = list-left (list.Refused why) row
-counted-out (count.Of m c) l n store held row = pick (eqb m 0) (list-left (list.Listed c) row) (laid-out (lay-out l n m (c .at)) m l n store held row)
+abbrev pub counted-out : {X : Type 0} → (ListStep → X) → (ℕ → ℕ → State → X) → List ℕ → ℕ → CountStep → X
+counted-out stop entries l n (count.Refused why) = stop (list.Refused why)
+counted-out stop entries l n (count.Of m c) = pick (eqb m 0) (stop (list.Listed c)) (laid-out stop (entries m) (lay-out l n m (c .at)))
 
-unfoldable pub list-run : List ℕ → ℕ → ℕ → Bool → ListRule → List ℕ → ListLeft
-list-run l at n store held row = counted-out (count-of (varint-at l at) n at) l n store held row
+-- put into the row, and only checked
+unfoldable pub put-parts : ListRule → ℕ → List ℕ → ℕ → List ℕ → ListLeft
+put-parts held n l at row =
+    counted-out (λ r. list-left r row) (λ m vals st. put-entries m l n vals held st row) l n (count-of (varint-at l at) n at)
+
+unfoldable pub check-parts : ListRule → ℕ → List ℕ → ℕ → List ℕ → ListStep
+check-parts held n l at row = counted-out (λ r. r) (λ m vals st. check-entries m l n vals held st row) l n (count-of (varint-at l at) n at)

@@ -2,23 +2,20 @@
 -- Assumes nothing.
 use mathlib.Core.Path.{_≡_}
 use Prim.Native.Nat.{ℕ, _+_, _-_, _*_, _/_, _≤_, _<_}
-use mathlib.Core.Bool.{true}
 use mathlib.Core.List.{List}
-use lib.ListN.{length, getD}
+use lib.ListN.{length}
 use Rattle.format.specs.Limits.{most-samples}
 use Rattle.format.specs.Difflist.{number-width}
-use Rattle.read_list.specs.Entries.{value-at, allows}
-use Rattle.read_list.specs.declared.ListRule.{ListRule}
 use Rattle.read_list.specs.declared.State.{State}
 
 -- the head and the size byte are there where a group begins
 pub record EntryReady (l : List ℕ) (n : ℕ) (st : State) : Type 0 where
   pub few : st .passed < most-samples
   pub below : st .last < n
-  pub steps : st .at ≤ length l
-  pub from : st .from ≤ length l
-  pub head : st .room ≡ 0 → st .head + number-width n ≤ length l
-  pub size : st .room ≡ 0 → (st .passed ≡ 0 → ⊥) → st .size < length l
+  pub steps : st .at .at ≤ length l
+  pub from : st .from .at ≤ length l
+  pub head : st .room ≡ 0 → st .head .at + number-width n ≤ length l
+  pub size : st .room ≡ 0 → (st .passed ≡ 0 → ⊥) → st .size .at < length l
 
 -- the values start at `vals`; the first group has no size byte before it
 pub record Room (l : List ℕ) (n vals more : ℕ) (st : State) : Type 0 where
@@ -26,17 +23,8 @@ pub record Room (l : List ℕ) (n vals more : ℕ) (st : State) : Type 0 where
   pub group : st .room ≤ 63
   pub begun : st .passed ≡ 0 → st .room ≡ 0
   pub below : st .last < n
-  pub steps : st .at ≤ length l
-  pub from : st .from ≤ st .at
+  pub steps : st .at .at ≤ length l
+  pub from : st .from .at ≤ st .at .at
   pub values : vals + (st .passed + more + 3) / 4 ≤ length l
-  pub heads : st .head + number-width n * ((more + (63 - st .room)) / 64) ≤ length l
-  pub sizes : st .size + (more + (63 - st .room)) / 64 ≤ vals + (1 - st .passed)
-
--- the next entry is a step of one byte, and is accepted
-pub record Short (l : List ℕ) (n vals : ℕ) (held : ListRule) (st : State) (row : List ℕ) : Type 0 where
-  pub step : st .room ≡ 0 → ⊥
-  pub inside : st .at < length l
-  pub rises : getD l (st .at) 0 ≡ 0 → ⊥
-  pub byte : getD l (st .at) 0 < 128
-  pub below : getD l (st .at) 0 < n - st .last
-  pub allowed : allows held (getD row (st .last + getD l (st .at) 0) 0) (value-at l vals (st .passed)) ≡ true
+  pub heads : st .head .at + number-width n * ((more + (63 - st .room)) / 64) ≤ length l
+  pub sizes : st .size .at + (more + (63 - st .room)) / 64 ≤ vals + (1 - st .passed)

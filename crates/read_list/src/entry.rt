@@ -6,38 +6,26 @@ use crate::ListStep;
 use crate::State;
 use crate::Walk;
 use base_cursor::Cursor;
+use base_cursor::ShortStep;
 use base_cursor::VarintStep;
 use base_list::number_width;
-use format::Refusal;
+use format::refusal_at;
 ghost use mathlib.Core.Path.{_≡_};
-ghost use mathlib.Core.Bool.{true};
-ghost use Prim.Native.Nat.{_+_, _/_, _≤_, _<_};
-ghost use lib.ListN.{length};
+ghost use Prim.Native.Nat.{suc, _+_, _/_, _≤_, _<_};
+ghost use lib.ListN.{length, getD};
 ghost use Rattle.format.specs.Limits.{most-samples};
 ghost use Rattle.format.specs.Difflist.{number-width};
 ghost use Rattle.base_cursor.specs.Steps.{varint-at};
 ghost use Rattle.read_list.specs.declared.EntryStep.the-variants.{On};
-ghost use Rattle.read_list.specs.Room.{Room, EntryReady, Short};
-ghost use Rattle.read_list.specs.Walked.{Walked};
-ghost use Rattle.read_list.specs.Entries.{number-at, allows, take-head, take-step, next-sample};
-ghost use Rattle.read_list.specs.Entries.{turn, kept, put-value, next-entry, list-left, all-entries};
+ghost use Rattle.read_list.specs.Room.{Room, EntryReady};
+ghost use Rattle.read_list.specs.Walked.{Putting};
+ghost use Rattle.read_list.specs.Entries.{allows, Against, take-head, take-step, next-head, check-value};
+ghost use Rattle.read_list.specs.Entries.{turn, put-entry, list-left, put-entries};
 
-// A number of `width` bytes, one or two, "little-endian", at p: a head, or a size byte.
-fn number_at(s: &[u8], width: usize, p: usize) -> usize
-    requires { ⌜ (0 < width) × (width ≤ 2) × (p + width ≤ length (now s)) ⌝ }
-    ensures { λ r. ⌜ r ≡ number-at width (now (s .entry)) p ⌝ }
-{
-    let low = s[p] as usize;
-    if width == 1 {
-        return low;
-    }
-    let high = s[p + 1] as usize;
-    high * 256 + low
-}
-
-// May the list hold `value` for a sample that has `old`?
-pub fn may_hold(held: ListRule, old: u8, value: u8) -> bool
-    ensures { λ r. ⌜ r ≡ allows held old value ⌝ }
+// May the list hold `value` for a sample of the row? A list off a pair asks no row.
+pub fn may_hold(held: ListRule, row: &[u8], sample: usize, value: u8) -> bool
+    requires { ⌜ Against held (suc sample) (now row) ⌝ }
+    ensures { λ r. ⌜ r ≡ allows held (getD (now (row .entry)) sample 0) value ⌝ }
 {
     match held {
         ListRule::OffPair(lower, higher) => {
@@ -46,32 +34,33 @@ pub fn may_hold(held: ListRule, old: u8, value: u8) -> bool
             }
             value != higher
         }
-        ListRule::OffRow => value != old,
+        ListRule::OffRow => value != row[sample],
     }
 }
 
 // The head of a group: at least `least`, and below n. The next size byte stands at `size`.
-fn take_head(s: &[u8], n: usize, least: usize, size: usize, st: State) -> EntryStep
-    requires { ⌜ st .head + number-width n ≤ length (now s) ⌝ }
+fn take_head(s: &[u8], n: usize, least: usize, size: Cursor, st: State) -> EntryStep
+    requires { ⌜ st .head .at + number-width n ≤ length (now s) ⌝ }
     ensures { λ r. ⌜ r ≡ take-head (now (s .entry)) n least size st ⌝ }
 {
-    let place = st.head;
-    let width = number_width(n);
-    let last = number_at(s, width, place);
+    let head = st.head;
+    let place = head.at;
+    let read = head.number(s, number_width(n));
+    let last = read.value;
     if last < least {
-        return EntryStep::Refused(Refusal { number: 16, place });
+        return EntryStep::Refused(refusal_at(16, place));
     }
     if last >= n {
-        return EntryStep::Refused(Refusal { number: 16, place });
+        return EntryStep::Refused(refusal_at(16, place));
     }
-    let head = place + width;
     let passed = st.passed;
     let at = st.at;
+    let next = read.next;
     EntryStep::On(State {
         room: 63,
         from: at,
         last,
-        head,
+        head: next,
         size,
         passed,
         at,
@@ -79,104 +68,69 @@ fn take_head(s: &[u8], n: usize, least: usize, size: usize, st: State) -> EntryS
 }
 
 // "the step from the sample before it in its group": at least 1, and to a sample below n.
-fn take_step(s: &[u8], n: usize, st: State) -> EntryStep
+pub fn take_step(s: &[u8], n: usize, st: State) -> EntryStep
     requires { ⌜ EntryReady (now s) n st × (0 < st .room) ⌝ }
-    ensures { λ r. ⌜ r ≡ take-step (varint-at (now (s .entry)) (st .at)) n st ⌝ }
+    ensures { λ r. ⌜ r ≡ take-step (varint-at (now (s .entry)) (st .at .at)) n st ⌝ }
 {
-    let at = st.at;
+    let here = st.at;
     let last = st.last;
-    let here = Cursor { at };
     let got = here.varint(s);
     match got {
         VarintStep::Refused(why) => EntryStep::Refused(why),
         VarintStep::Value(step, next) => {
             if step == 0 {
-                return EntryStep::Refused(Refusal {
-                    number: 16,
-                    place: at,
-                });
+                return EntryStep::Refused(refusal_at(16, here.at));
             }
             if step >= n - last {
-                return EntryStep::Refused(Refusal {
-                    number: 16,
-                    place: at,
-                });
+                return EntryStep::Refused(refusal_at(16, here.at));
             }
             let mut there = st;
             there.room = st.room - 1;
             there.last = last + step;
-            there.at = next.at;
+            there.at = next;
             EntryStep::On(there)
         }
     }
 }
 
-// The next sample: a head, after the size byte of the group before it ("63 less than the byte size of its group's varints"), or a step.
-pub fn next_sample(s: &[u8], n: usize, st: State) -> EntryStep
-    requires { ⌜ EntryReady (now s) n st ⌝ }
-    ensures { λ r. ⌜ r ≡ next-sample (now (s .entry)) n st ⌝ }
+// The head of the next group, after the size byte of the group before it ("63 less than the byte size of its group's varints").
+pub fn next_head(s: &[u8], n: usize, st: State) -> EntryStep
+    requires { ⌜ EntryReady (now s) n st × (st .room ≡ 0) ⌝ }
+    ensures { λ r. ⌜ r ≡ next-head (now (s .entry)) n st ⌝ }
 {
-    if st.room != 0 {
-        return take_step(s, n, st);
+    let mut least = 0;
+    let mut size = st.size;
+    if st.passed != 0 {
+        let read = size.number(s, 1);
+        if st.at.at != st.from.at + (read.value + 63) {
+            return EntryStep::Refused(refusal_at(16, size.at));
+        }
+        least = st.last + 1;
+        size = read.next;
     }
-    let size = st.size;
-    if st.passed == 0 {
-        return take_head(s, n, 0, size, st);
-    }
-    let bytes = number_at(s, 1, size) + 63;
-    if st.at != st.from + bytes {
-        return EntryStep::Refused(Refusal {
-            number: 16,
-            place: size,
-        });
-    }
-    take_head(s, n, st.last + 1, size + 1, st)
+    take_head(s, n, least, size, st)
 }
 
-// A value into the row, if it is to be stored.
-fn keep(row: &mut [u8], sample: usize, value: u8, store: bool)
-    requires { ⌜ sample < length (now row) ⌝ }
-    ensures { λ _. ⌜ now (row .exit) ≡ kept store (now (row .entry)) sample value ⌝ }
-{
-    if store {
-        row[sample] = value;
-    }
-}
-
-// The value of the entry whose sample is st.last. Samples rise, so the row still has there what the list is against.
-fn put_value(
-    s: &[u8],
-    values: usize,
-    store: bool,
-    held: ListRule,
-    st: State,
-    row: &mut [u8],
-) -> EntryStep
-    requires { ⌜ st .last < length (now row) ⌝ }
+// The value of the entry whose sample is st.last, looked at. Samples rise, so the row still has there what the list is against.
+pub fn check_value(s: &[u8], values: usize, held: ListRule, st: State, row: &[u8]) -> EntryStep
     requires { ⌜ (values + st .passed / 4 < length (now s)) × (st .passed < most-samples) ⌝ }
-    ensures { λ r. ⌜ turn r (now (row .exit)) ≡ put-value (now (s .entry)) values store held (On st) (now (row .entry)) ⌝ }
+    requires { ⌜ Against held (suc (st .last)) (now row) ⌝ }
+    ensures { λ r. ⌜ r ≡ check-value (now (s .entry)) values held (On st) (now (row .entry)) ⌝ }
 {
-    let last = st.last;
     let passed = st.passed;
-    let value = read_packed::two_bits(s, values, passed);
-    if may_hold(held, row[last], value) {
-        keep(row, last, value, store);
+    if may_hold(held, row, st.last, read_packed::two_bits(s, values, passed)) {
         let mut next = st;
         next.passed = passed + 1;
         return EntryStep::On(next);
     }
-    EntryStep::Refused(Refusal {
-        number: 17,
-        place: values + passed / 4,
-    })
+    EntryStep::Refused(refusal_at(17, values + passed / 4))
 }
 
-// One entry.
-fn next_entry(
+// One entry, put into the row.
+fn put_entry(
     s: &[u8],
     n: usize,
     values: usize,
-    store: bool,
     held: ListRule,
     st: State,
     row: &mut [u8],
@@ -184,49 +138,35 @@ fn next_entry(
     requires { ⌜ EntryReady (now s) n st ⌝ }
     requires { ⌜ n ≤ length (now row) ⌝ }
     requires { ⌜ values + st .passed / 4 < length (now s) ⌝ }
-    ensures { λ r. ⌜ turn r (now (row .exit)) ≡ next-entry (now (s .entry)) n values store held st (now (row .entry)) ⌝ }
+    ensures { λ r. ⌜ turn r (now (row .exit)) ≡ put-entry (now (s .entry)) n values held st (now (row .entry)) ⌝ }
 {
-    let got = next_sample(s, n, st);
+    let got = if st.room == 0 {
+        next_head(s, n, st)
+    } else {
+        take_step(s, n, st)
+    };
     match got {
         EntryStep::Refused(why) => EntryStep::Refused(why),
-        EntryStep::On(next) => put_value(s, values, store, held, next, row),
+        EntryStep::On(next) => {
+            let sample = next.last;
+            let passed = next.passed;
+            let value = read_packed::two_bits(s, values, passed);
+            if may_hold(held, &row[..], sample, value) {
+                row[sample] = value;
+                let mut there = next;
+                there.passed = passed + 1;
+                return EntryStep::On(there);
+            }
+            EntryStep::Refused(refusal_at(17, values + passed / 4))
+        }
     }
 }
 
-// Whether the next entry is a step of one byte, and is accepted: by far the commonest.
-fn is_short(s: &[u8], n: usize, values: usize, held: ListRule, st: State, row: &[u8]) -> bool
-    requires { ⌜ (st .last < n) × (n ≤ length (now row)) ⌝ }
-    requires { ⌜ values + st .passed / 4 < length (now s) ⌝ }
-    ensures { λ r. ⌜ (r ≡ true → Short (now (s .entry)) n values held st (now (row .entry))) ⌝ }
-{
-    let at = st.at;
-    let last = st.last;
-    if st.room == 0 {
-        return false;
-    }
-    if at >= s.len() {
-        return false;
-    }
-    let step = s[at] as usize;
-    if step == 0 {
-        return false;
-    }
-    if step >= 128 {
-        return false;
-    }
-    if step >= n - last {
-        return false;
-    }
-    let value = read_packed::two_bits(s, values, st.passed);
-    may_hold(held, row[last + step], value)
-}
-
-// Such entries, as many as come one after another: a loop of its own, since it needs to carry so little.
-fn short_steps(
+// Steps of a byte or two that are accepted, as many as come one after another: a loop of its own, since it needs to carry so little.
+fn put_short_steps(
     s: &[u8],
     n: usize,
     values: usize,
-    store: bool,
     held: ListRule,
     first: State,
     count: usize,
@@ -234,33 +174,48 @@ fn short_steps(
 ) -> Walk
     requires { ⌜ Room (now s) n values count first ⌝ }
     requires { ⌜ n ≤ length (now row) ⌝ }
-    ensures { λ r. ⌜ Walked (now (s .entry)) n values store held count first (now (row .entry)) (now (row .exit)) (r .st) (r .more) ⌝ }
+    ensures { λ r. ⌜ Putting (now (s .entry)) n values held count first (now (row .entry)) (now (row .exit)) (r .st) (r .more) ⌝ }
 {
     let mut st = first;
     let mut more = count;
     while more > 0 {
-        if !is_short(s, n, values, held, st, &row[..]) {
+        if st.room == 0 {
             return Walk { st, more };
         }
-        let at = st.at;
-        let passed = st.passed;
-        let last = st.last + s[at] as usize;
-        keep(row, last, read_packed::two_bits(s, values, passed), store);
-        st.room = st.room - 1;
-        st.last = last;
-        st.passed = passed + 1;
-        st.at = at + 1;
-        more = more - 1;
+        let here = st.at;
+        match here.short(s) {
+            ShortStep::NotShort => {
+                return Walk { st, more };
+            }
+            ShortStep::Short(step, next) => {
+                if step == 0 {
+                    return Walk { st, more };
+                }
+                if step >= n - st.last {
+                    return Walk { st, more };
+                }
+                let sample = st.last + step;
+                let value = read_packed::two_bits(s, values, st.passed);
+                if !may_hold(held, &row[..], sample, value) {
+                    return Walk { st, more };
+                }
+                row[sample] = value;
+                st.room = st.room - 1;
+                st.last = sample;
+                st.passed = st.passed + 1;
+                st.at = next;
+                more = more - 1;
+            }
+        }
     }
     Walk { st, more }
 }
 
 // All entries, one after another.
-pub fn all_entries(
+pub fn put_entries(
     s: &[u8],
     n: usize,
     values: usize,
-    store: bool,
     held: ListRule,
     first: State,
     count: usize,
@@ -268,23 +223,23 @@ pub fn all_entries(
 ) -> ListStep
     requires { ⌜ Room (now s) n values count first ⌝ }
     requires { ⌜ n ≤ length (now row) ⌝ }
-    ensures { λ r. ⌜ list-left r (now (row .exit)) ≡ all-entries count (now (s .entry)) n values store held first (now (row .entry)) ⌝ }
+    ensures { λ r. ⌜ list-left r (now (row .exit)) ≡ put-entries count (now (s .entry)) n values held first (now (row .entry)) ⌝ }
 {
     let mut st = first;
     let mut more = count;
     while more > 0 {
-        let got = next_entry(s, n, values, store, held, st, row);
+        let got = put_entry(s, n, values, held, st, row);
         match got {
             EntryStep::Refused(why) => {
                 return ListStep::Refused(why);
             }
             EntryStep::On(next) => {
-                let walk = short_steps(s, n, values, store, held, next, more - 1, row);
+                let walk = put_short_steps(s, n, values, held, next, more - 1, row);
                 st = walk.st;
                 more = walk.more;
             }
         }
     }
     let at = st.at;
-    ListStep::Listed(Cursor { at })
+    ListStep::Listed(at)
 }

@@ -1,7 +1,7 @@
 -- What the check of an array says, and what an array is to a row.
 -- Assumes nothing.
 use mathlib.Core.Path.{_≡_, sym, _∙_}
-use Prim.Native.Nat.{ℕ, suc, _+_, _-_, _%_, _≤_, _<_}
+use Prim.Native.Nat.{ℕ, _+_, _-_, _≤_, _<_}
 use native.Mathlib.Omega.{arith}
 use native.Mathlib.Decide.{ℕ-discrete}
 use mathlib.Core.List.{List, _++_, map}
@@ -12,63 +12,64 @@ use mir.Val.{Fits}
 use borrow.Author.Tests.{eq-eqb, ne-eqb}
 use Rattle.format.specs.declared.Refusal.{Refusal}
 use Rattle.format.specs.Base.{Out, ok, refused, refusal}
-use Rattle.format.specs.Packed.{Bits, one, two, more, packed-size, read-packed}
+use Rattle.format.specs.Packed.{Bits, one, two, packed-size, read-packed}
 use Rattle.format.proofs.Rules.{split}
-use Rattle.read_packed.specs.Arrays.{number-in, unused, tabulate}
+use Rattle.head_index.specs.NumbersAt.{digits-at}
+use Rattle.head_index.proofs.ByIndex.{digits-length}
+use Rattle.head_index.proofs.UnusedBits.{has-byte}
+use Rattle.base_cursor.specs.Steps.{cursor-at}
+use Rattle.base_cursor.specs.declared.Cursor.{Cursor}
+use Rattle.base_cursor.proofs.ByteLaws.{here}
+use Rattle.read_packed.specs.Arrays.{unused}
 use Rattle.read_packed.specs.Unpacked.{packed-step, array-at, UnpackLeft, unpack-left, unpacked, unpacked-two, unpacked-one, of-pair}
 use Rattle.read_packed.specs.declared.PackedStep.{PackedStep}
 use Rattle.read_packed.specs.declared.PackedStep.the-variants.{Next, Refused}
-use Rattle.read_packed.proofs.StoreLaws.{tabulate-length}
-use Rattle.read_packed.proofs.ReadsAt.{array-fits, array-unused, array-short, size-some}
+use Rattle.read_packed.proofs.ReadsAt.{array-fits, array-unused, array-short}
 
 -- ---- each return of `check`: `size` and `x` are what the calls for the size and the unused bits gave
 
 module _ (bits : Bits) (l : List ℕ) (at n size : ℕ) (e : size ≡ packed-size bits n) where
-  pub check-short : at ≤ length l → length l - at < size → Refused (refusal 12 (length l)) ≡ array-at bits n l at
+  pub check-short : at ≤ length l → length l - at < size → (why : Refusal) → why ≡ refusal 12 (length l) → Refused why ≡ array-at bits n l at
   unfolding array-at
-  check-short h g = rw (array-short bits l at n (omega arith) h)
+  check-short h g why f = rw (f, array-short bits l at n (omega arith) h)
 
   module _ (x : ℕ) (u : x ≡ unused bits l at n) where
     -- an array with unused bits has a byte
     pub some-size : (x ≡ 0 → ⊥) → 1 ≤ at + size
     unfolding unused
-    some-size z =
-        elim (ℕ-discrete (n % suc (more bits)) 0) [
-          | yes h ↦ absurd (z (u ∙ simp (eq-eqb (n % suc (more bits)) 0 h)))
-          | no h ↦ omega (arith, size-some bits n h)
-        ]
+    some-size z = omega (arith, has-byte bits n (drop at l) (λ o. z (u ∙ o)))
 
     module _ (known : (i : ℕ) → Fits w8 (getD l i 0)) (h : at ≤ length l) (g : size ≤ length l - at) where
-      pub check-unused : (x ≡ 0 → ⊥) → Refused (refusal 18 (at + size - 1)) ≡ array-at bits n l at
+      pub check-unused : (x ≡ 0 → ⊥) → (why : Refusal) → why ≡ refusal 18 (at + size - 1) → Refused why ≡ array-at bits n l at
       unfolding array-at
-      check-unused z = rw (e, array-unused bits l (λ i. known i .fits) at n (omega arith) (λ o. z (u ∙ o)))
+      check-unused z why f = rw (f, e, array-unused bits l (λ i. known i .fits) at n (omega arith) (λ o. z (u ∙ o)))
 
-      pub check-fits : x ≡ 0 → Next (at + size) ≡ array-at bits n l at
+      pub check-fits : x ≡ 0 → (end : Cursor) → end ≡ cursor-at (at + size) → Next end ≡ array-at bits n l at
       unfolding array-at
-      check-fits z =
+      check-fits z end f =
           let p : length l - length (drop (at + packed-size bits n) l) ≡ at + packed-size bits n = omega (arith, length-drop (at + packed-size bits n) l) in
-          rw (e, array-fits bits l (λ i. known i .fits) at n (omega arith) (sym u ∙ z), p)
+          rw (f, e, array-fits bits l (λ i. known i .fits) at n (omega arith) (sym u ∙ z), p)
 
 pub ruleset check-laws = (check-short, some-size, check-unused, check-fits)
 
 -- what is known of an array that was accepted
-pub record Accepted (bits : Bits) (l : List ℕ) (at n end : ℕ) : Type 0 where
-  pub ends : end ≡ at + packed-size bits n
+pub record Accepted (bits : Bits) (l : List ℕ) (at n : ℕ) (end : Cursor) : Type 0 where
+  pub ends : end ≡ cursor-at (at + packed-size bits n)
   pub inside : at + packed-size bits n ≤ length l
-  pub reads : read-packed (length l) bits n (drop at l) ≡ ok (tabulate (number-in bits l at) n 0) (drop end l)
+  pub reads : read-packed (length l) bits n (drop at l) ≡ ok (digits-at bits (drop at l) 0 n) (drop (end .at) l)
 
 module _ (bits : Bits) (l : List ℕ) (at n : ℕ) where
-  pub was-accepted : (end : ℕ) → ((i : ℕ) → getD l i 0 < 256) → at ≤ length l → Next end ≡ array-at bits n l at → Accepted bits l at n end
+  pub was-accepted : (end : Cursor) → ((i : ℕ) → getD l i 0 < 256) → at ≤ length l → Next end ≡ array-at bits n l at → Accepted bits l at n end
   unfolding array-at
   was-accepted end y h e =
       split (at + packed-size bits n) (length l)
       (λ g. elim (ℕ-discrete (unused bits l at n) 0) [
         | yes z ↦
-            let r : read-packed (length l) bits n (drop at l) ≡ ok (tabulate (number-in bits l at) n 0) (drop (at + packed-size bits n) l)
+            let r : read-packed (length l) bits n (drop at l) ≡ ok (digits-at bits (drop at l) 0 n) (drop (at + packed-size bits n) l)
             = array-fits bits l y at n g z in
             let p : length l - length (drop (at + packed-size bits n) l) ≡ at + packed-size bits n = omega (arith, length-drop (at + packed-size bits n) l) in
-            let q : Next end ≡ Next (at + packed-size bits n) = rw (r, p) at e in
-            let s : end ≡ at + packed-size bits n = cc in
+            let q : Next end ≡ Next (cursor-at (at + packed-size bits n)) = rw (r, p) at e in
+            let s : end ≡ cursor-at (at + packed-size bits n) = cc in
             record { ends = s; inside = g; reads = rw s r }
         | no z ↦
             let q : Next end ≡ Refused (refusal 18 (at + packed-size bits n - 1)) = rw (array-unused bits l y at n g z) at e in
@@ -97,16 +98,16 @@ module _ (bits : Bits) (l : List ℕ) (at n : ℕ) (got : PackedStep) (e : got �
   untouched : (g : List ℕ → List ℕ) (row : List ℕ) (why : Refusal) → got ≡ Refused why → Unpacks g row (unpack-left (Refused why) row)
   untouched g row why q = rw (was-refused bits l at n why (sym q ∙ e))
 
-  module _ (known : (i : ℕ) → Fits w8 (getD l i 0)) (h : at ≤ length l) (end : ℕ) (q : got ≡ Next end) where
+  module _ (known : (i : ℕ) → Fits w8 (getD l i 0)) (h : at ≤ length l) (end : Cursor) (q : got ≡ Next end) where
     accepted : Accepted bits l at n end
     accepted = was-accepted bits l at n end (λ i. known i .fits) h (sym q ∙ e)
 
     pub array-room : at + packed-size bits n ≤ length l
     array-room = accepted .inside
 
-    stored : (g : List ℕ → List ℕ) (row new : List ℕ) → new ≡ g (tabulate (number-in bits l at) n 0) ++ drop n row → Unpacks g row (unpack-left (Next end) new)
+    stored : (g : List ℕ → List ℕ) (row new : List ℕ) → new ≡ g (digits-at bits (drop at l) 0 n) ++ drop n row → Unpacks g row (unpack-left (Next end) new)
     stored g row new f =
-        let p : length l - length (drop end l) ≡ end = omega (arith, length-drop end l, accepted .ends, accepted .inside) in
+        let p : length l - length (drop (end .at) l) ≡ end .at = rw (accepted .ends) (here l (at + packed-size bits n) (accepted .inside)) in
         rw (accepted .reads, p, f)
 
 module _ (l : List ℕ) (at n : ℕ) (got : PackedStep) (e : got ≡ array-at two n l at) (row : List ℕ) where
@@ -114,8 +115,8 @@ module _ (l : List ℕ) (at n : ℕ) (got : PackedStep) (e : got ≡ array-at tw
   unfolding unpacked-two
   two-refused = untouched two l at n got e (λ vs. vs) row
 
-  pub two-accepted : ((i : ℕ) → Fits w8 (getD l i 0)) → at ≤ length l → (end : ℕ) → got ≡ Next end → (new : List ℕ)
-      → new ≡ tabulate (number-in two l at) n 0 ++ drop n row → unpack-left (Next end) new ≡ unpacked-two n l at row
+  pub two-accepted : ((i : ℕ) → Fits w8 (getD l i 0)) → at ≤ length l → (end : Cursor) → got ≡ Next end → (new : List ℕ)
+      → new ≡ digits-at two (drop at l) 0 n ++ drop n row → unpack-left (Next end) new ≡ unpacked-two n l at row
   unfolding unpacked-two
   two-accepted known h end q = stored two l at n got e known h end q (λ vs. vs) row
 
@@ -124,14 +125,14 @@ module _ (l : List ℕ) (at n : ℕ) (got : PackedStep) (e : got ≡ array-at on
   unfolding unpacked-one
   one-refused = untouched one l at n got e (map (of-pair lower higher)) row
 
-  pub one-accepted : ((i : ℕ) → Fits w8 (getD l i 0)) → at ≤ length l → (end : ℕ) → got ≡ Next end → (mid new : List ℕ)
-      → mid ≡ tabulate (number-in one l at) n 0 ++ drop n row → new ≡ map (of-pair lower higher) (take n mid) ++ drop n mid
+  pub one-accepted : ((i : ℕ) → Fits w8 (getD l i 0)) → at ≤ length l → (end : Cursor) → got ≡ Next end → (mid new : List ℕ)
+      → mid ≡ digits-at one (drop at l) 0 n ++ drop n row → new ≡ map (of-pair lower higher) (take n mid) ++ drop n mid
       → unpack-left (Next end) new ≡ unpacked-one lower higher n l at row
   unfolding unpacked-one
   one-accepted known h end q mid new o f =
-      let bits = tabulate (number-in one l at) n 0 in
-      let t : take n mid ≡ bits = rw o (take-at bits (drop n row) n (tabulate-length (number-in one l at) n 0)) in
-      let d : drop n mid ≡ drop n row = rw o (drop-at bits (drop n row) n (tabulate-length (number-in one l at) n 0)) in
+      let bits = digits-at one (drop at l) 0 n in
+      let t : take n mid ≡ bits = rw o (take-at bits (drop n row) n (digits-length one (drop at l) 0 n)) in
+      let d : drop n mid ≡ drop n row = rw o (drop-at bits (drop n row) n (digits-length one (drop at l) 0 n)) in
       stored one l at n got e known h end q (map (of-pair lower higher)) row new (f ∙ rw (t, d))
 
 pub pair-lower : (lower higher bit : ℕ) → bit ≡ 0 → lower ≡ of-pair lower higher bit

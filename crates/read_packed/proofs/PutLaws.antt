@@ -6,9 +6,11 @@ use native.Mathlib.Omega.{arith}
 use native.Mathlib.Nat.{div-eq-of-lt-le, mod-eq-sub-div-mul}
 use mathlib.Core.List.{List}
 use lib.ListN.{getD, length}
+use lib.Seq.{getD-drop}
 use mir.Syntax.{w8}
 use mir.Val.{Fits}
 use Rattle.format.specs.Packed.{Bits, one, two, limit, more}
+use Rattle.head_index.specs.NumbersAt.{digit-at}
 use Rattle.read_packed.specs.Arrays.{number-in, Spread, put}
 use Rattle.read_packed.proofs.StoreLaws.{Storing, four-stored, stores-all, bytes-stored}
 
@@ -35,11 +37,11 @@ module _ (bits : Bits) (l : List ℕ) (v i : ℕ) where
   part j = getD l (v + i) 0 / limit bits ^ j % limit bits
 
   number-is : (j m : ℕ) → m ≡ per * i + j → j < per → number-in bits l v m ≡ part j
-  unfolding number-in
+  unfolding number-in digit-at
   number-is j m e h =
       let d : m / per ≡ i = div-eq-of-lt-le per (omega arith) (omega arith) in
       let r : m % per ≡ j = mod-eq-sub-div-mul m per ∙ rw d (omega arith) in
-      rw (d, r)
+      rw (d, r, getD-drop v l i 0)
 
   four-numbers : (x j k : ℕ) → k ≡ per * i + j → j + 3 < per → Spread x (part j) (part (j + 1)) (part (j + 2)) (part (j + 3))
       → let f = number-in bits l v in Spread x (f k) (f (k + 1)) (f (k + 2)) (f (k + 3))

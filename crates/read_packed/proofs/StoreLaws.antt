@@ -1,31 +1,29 @@
 -- Numbers stored one after another: in a run, one or four a turn, and what holds before a turn of a loop that does so.
 -- Assumes nothing.
-use mathlib.Core.Path.{_≡_, refl, ap, _∙_}
+use mathlib.Core.Path.{_≡_, refl, _∙_}
 use Prim.Native.Nat.{ℕ, zero, suc, _+_, _-_, _*_, _/_, _≤_, _<_}
 use native.Mathlib.Omega.{arith}
 use native.Mathlib.Nat.{add-zero, mul-le-mul-left, mul-div-le}
 use mathlib.Core.List.{List, [], _∷_, _++_, append-assoc}
 use lib.ListN.{length, set, drop, length-append, length-set}
 use lib.Seq.{set-at}
-use Rattle.read_packed.specs.Arrays.{bits-of, number-in, tabulate, store, Spread, put}
+use Rattle.format.specs.Packed.{Bits}
+use Rattle.head_index.specs.NumbersAt.{digit-at, digits-at}
+use Rattle.read_packed.specs.Arrays.{bits-of, number-in, store, Spread, put}
 use Rattle.read_packed.specs.declared.Width.{Width}
 use Rattle.read_packed.proofs.WidthLaws.{number-inside}
 
-pub tabulate-length : (f : ℕ → ℕ) (m k : ℕ) → length (tabulate f m k) ≡ m
-unfolding tabulate
-tabulate-length f zero k = refl
-tabulate-length f (suc m) k = ap suc (tabulate-length f m (k + 1))
-
 -- a run of stores is a list in front of the rest
-stored-after : (f : ℕ → ℕ) (m k : ℕ) (done rest : List ℕ) → length done ≡ k → m ≤ length rest
-    → store f m k (done ++ rest) ≡ done ++ (tabulate f m k ++ drop m rest)
-unfolding tabulate store
-stored-after f zero k done [] e h = refl
-stored-after f zero k done (x ∷ rest) e h = refl
-stored-after f (suc m) k done [] e h = absurd (omega arith)
-stored-after f (suc m) k done (x ∷ rest) e h =
-    let q : length (done ++ (f k ∷ [])) ≡ k + 1 = omega (arith, length-append done (f k ∷ [])) in
-    rw (set-at done x rest (f k) k e) (simp append-assoc at (stored-after f m (k + 1) (done ++ (f k ∷ [])) rest q (omega arith)))
+stored-after : (bits : Bits) (l : List ℕ) (v m k : ℕ) (done rest : List ℕ) → length done ≡ k → m ≤ length rest
+    → store (number-in bits l v) m k (done ++ rest) ≡ done ++ (digits-at bits (drop v l) k m ++ drop m rest)
+unfolding digits-at store number-in
+stored-after bits l v zero k done [] e h = refl
+stored-after bits l v zero k done (x ∷ rest) e h = refl
+stored-after bits l v (suc m) k done [] e h = absurd (omega arith)
+stored-after bits l v (suc m) k done (x ∷ rest) e h =
+    let d : ℕ = digit-at bits (drop v l) k in
+    let q : length (done ++ (d ∷ [])) ≡ k + 1 = omega (arith, length-append done (d ∷ [])) in
+    rw (set-at done x rest d k e) (simp append-assoc at (stored-after bits l v m (k + 1) (done ++ (d ∷ [])) rest q (omega arith)))
 
 -- a run in two parts
 store-both : (f : ℕ → ℕ) (a b k : ℕ) (row : List ℕ) → store f b (k + a) (store f a k row) ≡ store f (a + b) k row
@@ -40,13 +38,13 @@ store-both f (suc a) b k row =
 pub both-stored : (width told : Width) → width ≡ told → (l : List ℕ) (at n per : ℕ) (row mid new : List ℕ)
     → mid ≡ store (number-in (bits-of told) l at) (per * (n / per)) 0 row
     → new ≡ store (number-in (bits-of told) l at) (n - per * (n / per)) (per * (n / per)) mid
-    → n ≤ length row → new ≡ tabulate (number-in (bits-of width) l at) n 0 ++ drop n row
+    → n ≤ length row → new ≡ digits-at (bits-of width) (drop at l) 0 n ++ drop n row
 both-stored width told o l at n per row mid new e g h =
     let f = number-in (bits-of told) l at in
     let a : ℕ = per * (n / per) in
     let z : 0 + a ≡ a = omega arith in
     let s : a + (n - a) ≡ n = omega (arith, mul-div-le n per) in
-    rw o (g ∙ rw e (rw (z, s) at (store-both f a (n - a) 0 row)) ∙ stored-after f n 0 [] row refl h)
+    rw o (g ∙ rw e (rw (z, s) at (store-both f a (n - a) 0 row)) ∙ stored-after (bits-of told) l at n 0 [] row refl h)
 
 -- ---- a loop that stores n numbers: number k is next, and storing the rest makes the row `last`
 

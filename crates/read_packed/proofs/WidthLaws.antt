@@ -1,15 +1,17 @@
 -- Where an array's numbers stand, for both widths at once: `per`, numbers to a byte, is what the code writes out for its width, 8 or 4.
 -- Assumes nothing.
-use mathlib.Core.Path.{_≡_, refl}
+use mathlib.Core.Path.{_≡_, refl, sym}
 use Prim.Native.Nat.{ℕ, zero, suc, _+_, _*_, _/_, _%_, _^_, _≤_, _<_}
 use native.Mathlib.Omega.{arith}
 use native.Mathlib.Nat.{pow-suc}
 use mathlib.Core.List.{List}
-use lib.ListN.{getD}
+use lib.ListN.{drop, getD}
+use lib.Seq.{getD-drop}
 use lib.Bits.{bitAnd, and-mask}
-use borrow.Author.Tests.{eq-eqb, ne-eqb}
 use Rattle.format.specs.Packed.{Bits, one, two, four, eight, limit, more, packed-size}
 use Rattle.format.proofs.PackedLaws.{byte-there}
+use Rattle.head_index.specs.NumbersAt.{digit-at}
+use Rattle.head_index.proofs.UnusedBits.{none-unused, some-unused, next-inside}
 use Rattle.read_packed.specs.Arrays.{bits-of, number-in, unused}
 use Rattle.read_packed.specs.declared.Width.{Width}
 use Rattle.read_packed.specs.declared.Width.the-variants.{One, Two}
@@ -48,12 +50,6 @@ some-full two n = omega arith
 some-full four n = omega arith
 some-full eight n = omega arith
 
-some-begun : (bits : Bits) (n : ℕ) → (n % suc (more bits) ≡ 0 → ⊥) → n / suc (more bits) < packed-size bits n
-some-begun one n h = omega arith
-some-begun two n h = omega arith
-some-begun four n h = omega arith
-some-begun eight n h = omega arith
-
 module _ (width : Width) (per : ℕ) (e : per ≡ per-byte width) where
   pub number-room : (at n m : ℕ) → at + n / per-byte width < m → at + n / per < m
   number-room at n m h = rw e h
@@ -66,7 +62,7 @@ module _ (width : Width) (per : ℕ) (e : per ≡ per-byte width) where
     full-room = rw e (omega (arith, some-full (bits-of width) n))
 
     pub part-room : (n % per ≡ 0 → ⊥) → at + n / per < m
-    part-room h = rw e (omega (arith, some-begun (bits-of width) n (rw e at h)))
+    part-room h = rw e (omega (arith, next-inside (bits-of width) n (rw e at h)))
 
     pub size-room : (q : ℕ) → per ≡ suc q → at + (n + q) / per ≤ m
     size-room q h = rw (size-is q n h) room
@@ -74,11 +70,11 @@ module _ (width : Width) (per : ℕ) (e : per ≡ per-byte width) where
   module _ (l : List ℕ) (at n : ℕ) where
     pub unused-full : n % per ≡ 0 → 0 ≡ unused (bits-of width) l at n
     unfolding unused
-    unused-full h = rw (← e) (simp (eq-eqb (n % per) 0 h))
+    unused-full h = sym (none-unused (bits-of width) n (drop at l) (rw e at h))
 
     pub unused-part : (n % per ≡ 0 → ⊥) → (x : ℕ) → x ≡ limit (bits-of width) ^ (n % per) → getD l (at + n / per) 0 / x ≡ unused (bits-of width) l at n
     unfolding unused
-    unused-part h x f = rw (← e, f) (simp (ne-eqb (n % per) 0 h))
+    unused-part h x f = rw (f, e) (sym (some-unused (bits-of width) n at l (rw e at h)))
 
 -- number k of n
 pub number-inside : (width : Width) (at k n m : ℕ) → at + packed-size (bits-of width) n ≤ m → k < n → at + k / per-byte width < m
@@ -90,12 +86,12 @@ number-as width told l at k r e h = rw e h
 -- ---- a number of one bit and one of two, as the code takes them out of their byte
 
 pub one-bit-is : (l : List ℕ) (v k : ℕ) → bitAnd (getD l (v + k / 8) 0 / 2 ^ (k % 8)) 1 ≡ number-in one l v k
-unfolding number-in
-one-bit-is l v k = and-mask (getD l (v + k / 8) 0 / 2 ^ (k % 8)) 1
+unfolding number-in digit-at
+one-bit-is l v k = rw (getD-drop v l (k / 8) 0) (and-mask (getD l (v + k / 8) 0 / 2 ^ (k % 8)) 1)
 
 pub two-bits-are : (l : List ℕ) (v k : ℕ) → bitAnd (getD l (v + k / 4) 0 / 2 ^ (2 * (k % 4))) 3 ≡ number-in two l v k
-unfolding number-in
-two-bits-are l v k = rw (← four-power (k % 4)) (and-mask (getD l (v + k / 4) 0 / 2 ^ (2 * (k % 4))) 2)
+unfolding number-in digit-at
+two-bits-are l v k = rw (getD-drop v l (k / 4) 0, ← four-power (k % 4)) (and-mask (getD l (v + k / 4) 0 / 2 ^ (2 * (k % 4))) 2)
 
 pub ruleset written-out = (eight-a-byte, four-a-byte, one-shift, two-shift)
 

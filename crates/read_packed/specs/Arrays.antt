@@ -1,12 +1,11 @@
--- A packed array by position, and numbers stored one after another. (That this is the format's own reading is proofs/ReadsAt.)
+-- A packed array at a place, and numbers stored one after another.
 -- Assumes nothing.
 use mathlib.Core.Path.{_≡_}
-use Prim.Native.Nat.{ℕ, zero, suc, _+_, _/_, _%_, _^_}
-use mathlib.Core.List.{List, [], _∷_}
-use lib.ListN.{getD, set}
-use lib.Dec.{eqb}
-use Rattle.format.specs.Base.{pick}
-use Rattle.format.specs.Packed.{Bits, one, two, limit, more}
+use Prim.Native.Nat.{ℕ, zero, suc, _+_, _/_, _%_}
+use mathlib.Core.List.{List}
+use lib.ListN.{drop, set}
+use Rattle.format.specs.Packed.{Bits, one, two}
+use Rattle.head_index.specs.NumbersAt.{digit-at, unused-bits}
 use Rattle.read_packed.specs.declared.Width.{Width}
 use Rattle.read_packed.specs.declared.Width.the-variants.{One, Two}
 
@@ -16,17 +15,13 @@ bits-of Two = two
 
 -- number k of an array that starts at v
 unfoldable pub number-in : Bits → List ℕ → ℕ → ℕ → ℕ
-number-in bits l v k = getD l (v + k / suc (more bits)) 0 / limit bits ^ (k % suc (more bits)) % limit bits
+number-in bits l v k = digit-at bits (drop v l) k
 
--- what k numbers leave of the last byte that they stand in: 0 where they fill it
+-- the unused bits of n numbers from there on
 unfoldable pub unused : Bits → List ℕ → ℕ → ℕ → ℕ
-unused bits l v k = pick (eqb (k % suc (more bits)) 0) 0 (getD l (v + k / suc (more bits)) 0 / limit bits ^ (k % suc (more bits)))
+unused bits l v n = unused-bits bits n (drop v l)
 
--- what f gives for m numbers from k on: as a list, and stored one after another
-unfoldable pub tabulate : (ℕ → ℕ) → ℕ → ℕ → List ℕ
-tabulate f zero k = []
-tabulate f (suc m) k = f k ∷ tabulate f m (k + 1)
-
+-- what f gives for m numbers from k on, stored one after another
 unfoldable pub store : (ℕ → ℕ) → ℕ → ℕ → List ℕ → List ℕ
 store f zero k row = row
 store f (suc m) k row = store f m (k + 1) (set row k (f k))

@@ -3,14 +3,15 @@
 use Prim.Native.Nat.{ℕ}
 use mathlib.Core.List.{List, _++_, map}
 use lib.ListN.{length, drop}
-use Rattle.format.specs.Base.{pick, Out, ok, refused, place-of}
+use Rattle.format.specs.Base.{pick, Out, ok, refused}
 use Rattle.format.specs.Packed.{Bits, one, two, read-packed}
 use Rattle.format.specs.Track.{bit-set}
+use Rattle.base_cursor.specs.Steps.{before}
 use Rattle.read_packed.specs.declared.PackedStep.{PackedStep}
 use Rattle.read_packed.specs.declared.PackedStep.the-variants.{Next, Refused}
 
 abbrev pub packed-step : ℕ → Out (List ℕ) → PackedStep
-packed-step end (ok vs left) = Next (place-of end left)
+packed-step end (ok vs left) = Next (before end left)
 packed-step end (refused why) = Refused why
 
 -- the array of n numbers at `at`, of a record that ends where the list does
@@ -23,7 +24,7 @@ pub data UnpackLeft : Type 0 where
 
 -- an accepted array is put into the row's first n bytes, each number as f makes it; a refusal leaves the row as it was
 abbrev pub unpacked : ℕ → (List ℕ → List ℕ) → ℕ → List ℕ → Out (List ℕ) → UnpackLeft
-unpacked end f n row (ok vs left) = unpack-left (Next (place-of end left)) (f vs ++ drop n row)
+unpacked end f n row (ok vs left) = unpack-left (Next (before end left)) (f vs ++ drop n row)
 unpacked end f n row (refused why) = unpack-left (Refused why) row
 
 unfoldable pub unpacked-two : ℕ → List ℕ → ℕ → List ℕ → UnpackLeft

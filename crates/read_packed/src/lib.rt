@@ -1,13 +1,16 @@
 // Packed arrays, checked and unpacked. Every slice `s` is the file cut where
 // the record ends, so that its length is the record's end.
+use base_cursor::Cursor;
 use format::Refusal;
+use format::refusal_at;
 ghost use mathlib.Core.Path.{_≡_};
 ghost use Prim.Native.Nat.{suc, _+_, _-_, _*_, _/_, _%_, _≤_, _<_};
 ghost use mathlib.Core.List.{_++_, map};
 ghost use lib.ListN.{length, take, drop};
 ghost use Rattle.format.specs.Limits.{most-samples};
 ghost use Rattle.format.specs.Packed.{one, two, more, packed-size};
-ghost use Rattle.read_packed.specs.Arrays.{bits-of, number-in, unused, tabulate, store, Spread, put};
+ghost use Rattle.head_index.specs.NumbersAt.{digits-at};
+ghost use Rattle.read_packed.specs.Arrays.{bits-of, number-in, unused, store, Spread, put};
 ghost use Rattle.read_packed.specs.Unpacked.{array-at, unpack-left, unpacked-two, unpacked-one, of-pair};
 
 // How many bits a number of an array has.
@@ -16,9 +19,9 @@ pub enum Width {
     Two,
 }
 
-// The place after an array, or a refusal.
+// The cursor after an array, or a refusal.
 pub enum PackedStep {
-    Next(usize),
+    Next(Cursor),
     Refused(Refusal),
 }
 
@@ -84,24 +87,19 @@ pub fn unused_bits(s: &[u8], at: usize, n: usize, width: Width) -> u8
 }
 
 // 01, Replies: "first that the part fits (12), then its rule": 18, "unused record bits set", at "that byte".
-pub fn check_array(s: &[u8], at: usize, n: usize, width: Width) -> PackedStep
-    requires { ⌜ (at ≤ length (now s)) × (n ≤ most-samples) ⌝ }
-    ensures { λ r. ⌜ r ≡ array-at (bits-of width) n (now (s .entry)) at ⌝ }
+pub fn check_array(s: &[u8], c: Cursor, n: usize, width: Width) -> PackedStep
+    requires { ⌜ (c .at ≤ length (now s)) × (n ≤ most-samples) ⌝ }
+    ensures { λ r. ⌜ r ≡ array-at (bits-of width) n (now (s .entry)) (c .at) ⌝ }
 {
+    let at = c.at;
     let size = packed_size(width, n);
     if size > s.len() - at {
-        return PackedStep::Refused(Refusal {
-            number: 12,
-            place: s.len(),
-        });
+        return PackedStep::Refused(refusal_at(12, s.len()));
     }
     if unused_bits(s, at, n, width) != 0 {
-        return PackedStep::Refused(Refusal {
-            number: 18,
-            place: at + size - 1,
-        });
+        return PackedStep::Refused(refusal_at(18, at + size - 1));
     }
-    PackedStep::Next(at + size)
+    PackedStep::Next(c.past(size))
 }
 
 // The four two-bit numbers of a byte, one to each byte of a wider number.
@@ -167,7 +165,7 @@ fn store_rest(s: &[u8], at: usize, from: usize, n: usize, width: Width, row: &mu
 // n numbers into a row, as they are.
 fn store_numbers(s: &[u8], at: usize, n: usize, width: Width, row: &mut [u8])
     requires { ⌜ (n ≤ length (now row)) × (at + packed-size (bits-of width) n ≤ length (now s)) ⌝ }
-    ensures { λ _. ⌜ now (row .exit) ≡ tabulate (number-in (bits-of width) (now (s .entry)) at) n 0 ++ drop n (now (row .entry)) ⌝ }
+    ensures { λ _. ⌜ now (row .exit) ≡ digits-at (bits-of width) (drop at (now (s .entry))) 0 n ++ drop n (now (row .entry)) ⌝ }
 {
     match width {
         Width::One => {
@@ -182,15 +180,15 @@ fn store_numbers(s: &[u8], at: usize, n: usize, width: Width, row: &mut [u8])
 }
 
 // 01, Categories: "Packed: two bits per sample, lowest sample in the lowest bits." The array's categories into the row's first n bytes.
-pub fn unpack_categories(s: &[u8], at: usize, n: usize, row: &mut [u8]) -> PackedStep
-    requires { ⌜ (at ≤ length (now s)) × (n ≤ most-samples) × (n ≤ length (now row)) ⌝ }
-    ensures { λ r. ⌜ unpack-left r (now (row .exit)) ≡ unpacked-two n (now (s .entry)) at (now (row .entry)) ⌝ }
+pub fn unpack_categories(s: &[u8], c: Cursor, n: usize, row: &mut [u8]) -> PackedStep
+    requires { ⌜ (c .at ≤ length (now s)) × (n ≤ most-samples) × (n ≤ length (now row)) ⌝ }
+    ensures { λ r. ⌜ unpack-left r (now (row .exit)) ≡ unpacked-two n (now (s .entry)) (c .at) (now (row .entry)) ⌝ }
 {
-    let checked = check_array(s, at, n, Width::Two);
+    let checked = check_array(s, c, n, Width::Two);
     match checked {
         PackedStep::Refused(why) => PackedStep::Refused(why),
         PackedStep::Next(end) => {
-            store_numbers(s, at, n, Width::Two, row);
+            store_numbers(s, c.at, n, Width::Two, row);
             PackedStep::Next(end)
         }
     }
@@ -216,20 +214,20 @@ fn choose(row: &mut [u8], n: usize, lower: u8, higher: u8)
 // 01, Categories and kinds: "a bit per sample (set: the higher category of the pair)".
 pub fn unpack_pair(
     s: &[u8],
-    at: usize,
+    c: Cursor,
     n: usize,
     lower: u8,
     higher: u8,
     row: &mut [u8],
 ) -> PackedStep
-    requires { ⌜ (at ≤ length (now s)) × (n ≤ most-samples) × (n ≤ length (now row)) ⌝ }
-    ensures { λ r. ⌜ unpack-left r (now (row .exit)) ≡ unpacked-one lower higher n (now (s .entry)) at (now (row .entry)) ⌝ }
+    requires { ⌜ (c .at ≤ length (now s)) × (n ≤ most-samples) × (n ≤ length (now row)) ⌝ }
+    ensures { λ r. ⌜ unpack-left r (now (row .exit)) ≡ unpacked-one lower higher n (now (s .entry)) (c .at) (now (row .entry)) ⌝ }
 {
-    let checked = check_array(s, at, n, Width::One);
+    let checked = check_array(s, c, n, Width::One);
     match checked {
         PackedStep::Refused(why) => PackedStep::Refused(why),
         PackedStep::Next(end) => {
-            store_numbers(s, at, n, Width::One, row);
+            store_numbers(s, c.at, n, Width::One, row);
             choose(row, n, lower, higher);
             PackedStep::Next(end)
         }

@@ -1,9 +1,8 @@
--- A list applied to a row whose first n bytes are known: kinds 1, 4, 6 and 7.
+-- A list put into a row whose first n bytes are known: kinds 1, 4, 6 and 7.
 -- Assumes nothing.
 use mathlib.Core.Path.{_≡_, refl, _∙_}
 use Prim.Native.Nat.{ℕ, _≤_, _<_}
 use native.Mathlib.Omega.{arith}
-use mathlib.Core.Bool.{true, false}
 use mathlib.Core.List.{List, _++_, map}
 use lib.ListN.{getD, length, take, drop, replicate, length-map, length-replicate, getD-replicate}
 use lib.Seq.{take-at}
@@ -14,20 +13,20 @@ use Rattle.format.specs.Base.{Out, ok, refused, bind, map-out}
 use Rattle.format.specs.Packed.{one, read-packed}
 use Rattle.format.specs.Difflist.{Entry, number-width, read-list}
 use Rattle.format.specs.Track.{against-category, sparse, rule, off-anchor, off-category, apply, read-listed, read-kind, track-categories}
-use Rattle.read_packed.specs.Arrays.{number-in, tabulate}
+use Rattle.base_cursor.specs.declared.Cursor.{Cursor}
+use Rattle.head_index.specs.NumbersAt.{digits-at}
 use Rattle.read_packed.specs.Unpacked.{packed-step, array-at, unpacked, unpacked-one, of-pair, unpack-left}
 use Rattle.read_packed.specs.declared.PackedStep.{PackedStep}
 use Rattle.read_packed.specs.declared.PackedStep.the-variants.{Next, Refused as NotPacked}
-use Rattle.read_packed.proofs.StoreLaws.{tabulate-length}
+use Rattle.head_index.proofs.ByIndex.{digits-length}
 use Rattle.read_packed.proofs.CheckLaws.{Accepted, was-accepted}
 use Rattle.read_list.specs.Entries.{ListLeft, list-left}
 use Rattle.read_list.specs.Listed.{may-hold, list-replied, listed}
-use Rattle.read_list.specs.Checked.{off-both}
 use Rattle.read_list.specs.declared.ListRule.{ListRule}
 use Rattle.read_list.specs.declared.ListRule.the-variants.{OffPair, OffRow}
 use Rattle.read_list.specs.declared.ListStep.{ListStep}
 use Rattle.read_list.specs.declared.ListStep.the-variants.{Refused}
-use Rattle.read_record.specs.Rows.{wiped, stored, kind-categories, tracked, pair-categories}
+use Rattle.read_record.specs.Rows.{wiped, stored, kind-categories, tracked, off-both, pair-categories}
 use Rattle.read_record.proofs.RuleLaws.{list-same}
 use Rattle.read_record.proofs.RowLaws.{rest-of, zero-rest}
 
@@ -36,11 +35,11 @@ module _ (l : List ℕ) (at n : ℕ) (held : ListRule) (row mid first : List ℕ
   abbrev entries : Out (List Entry)
   entries = read-list (rule n (may-hold held first)) (number-width n) (length l) (drop at l)
 
-  list-stored : (o : ListLeft) → o ≡ listed true held n l at mid → wiped false n o ≡ stored false (length l) n row (map-out (λ es. apply es first) entries)
+  list-stored : (o : ListLeft) → o ≡ listed held n l at mid → wiped n o ≡ stored (length l) n row (map-out (λ es. apply es first) entries)
   unfolding listed
   list-stored o e = rw (e, t) (through entries)
     where
-      through : (m : Out (List Entry)) → wiped false n (list-replied true (length l) n mid m) ≡ stored false (length l) n row (map-out (λ es. apply es first) m)
+      through : (m : Out (List Entry)) → wiped n (list-replied (length l) n mid m) ≡ stored (length l) n row (map-out (λ es. apply es first) m)
       through (ok es left) = rw (t, d)
       through (refused why) = rw (zero-rest n mid, d)
 
@@ -56,8 +55,8 @@ module _ (l : List ℕ) (start n category : ℕ) (row mid : List ℕ) (filled : 
   off-filled : (sample value : ℕ) → sample < n → off-anchor (replicate n category) sample value ≡ off-category category sample value
   off-filled sample value h = rw (getD-replicate n sample category 1 h)
 
-  pub sparse-stored : (r : ListStep) (new : List ℕ) → list-left r new ≡ listed true OffRow n l start mid
-      → wiped false n (list-left r new) ≡ tracked false (against-category category) n l start row
+  pub sparse-stored : (r : ListStep) (new : List ℕ) → list-left r new ≡ listed OffRow n l start mid
+      → wiped n (list-left r new) ≡ tracked (against-category category) n l start row
   unfolding kind-categories read-kind read-listed
   sparse-stored r new e =
       let t : take n mid ≡ replicate n category = rw filled (take-at (replicate n category) (drop n row) n (length-replicate n category)) in
@@ -83,17 +82,17 @@ module _ (l : List ℕ) (at n lower higher : ℕ) (row mid : List ℕ) (got : Pa
   was-unpacked = told
 
   pub bits-refused : (why : Refusal) → got ≡ NotPacked why
-      → wiped false n (list-left (Refused why) mid) ≡ stored false (length l) n row (pair-categories lower higher n l at)
+      → wiped n (list-left (Refused why) mid) ≡ stored (length l) n row (pair-categories lower higher n l at)
   unfolding pair-categories
   bits-refused why e = through read was-unpacked
     where
       through : (m : Out (List ℕ)) → Unpacked m
-          → list-left (Refused why) (replicate n 0 ++ drop n mid) ≡ stored false (length l) n row (bind m (λ bits left.
+          → list-left (Refused why) (replicate n 0 ++ drop n mid) ≡ stored (length l) n row (bind m (λ bits left.
           map-out (λ es. apply es (map (of-pair lower higher) bits)) (read-list (rule n (off-both lower higher)) (number-width n) (length l) left)))
       through (ok vs left) q = absurd (let z : _≡_ {A = ℕ} 0 1 = cc in omega arith)
       through (refused because) q = cc
 
-  module _ (next : ℕ) (e : got ≡ Next next) (known : (i : ℕ) → Fits w8 (getD l i 0)) (h : at ≤ length l) where
+  module _ (next : Cursor) (e : got ≡ Next next) (known : (i : ℕ) → Fits w8 (getD l i 0)) (h : at ≤ length l) where
     bits-step : Next next ≡ array-at one n l at
     unfolding array-at
     bits-step = through read was-unpacked
@@ -105,24 +104,24 @@ module _ (l : List ℕ) (at n lower higher : ℕ) (row mid : List ℕ) (got : Pa
     accepted : Accepted one l at n next
     accepted = was-accepted one l at n next (λ i. known i .fits) h bits-step
 
-    pub bits-inside : next ≤ length l
-    bits-inside = omega (arith, accepted .ends, accepted .inside)
+    pub bits-inside : next .at ≤ length l
+    bits-inside = rw (accepted .ends) (accepted .inside)
 
     abbrev bits : List ℕ
-    bits = tabulate (number-in one l at) n 0
+    bits = digits-at one (drop at l) 0 n
 
     bits-row : mid ≡ map (of-pair lower higher) bits ++ drop n row
-    bits-row = let q : Unpacked (ok bits (drop next l)) = rw (accepted .reads) at was-unpacked in cc
+    bits-row = let q : Unpacked (ok bits (drop (next .at) l)) = rw (accepted .reads) at was-unpacked in cc
 
-    pub bits-listed : (r : ListStep) (new : List ℕ) → list-left r new ≡ listed true (OffPair lower higher) n l next mid
-        → wiped false n (list-left r new) ≡ stored false (length l) n row (pair-categories lower higher n l at)
+    pub bits-listed : (r : ListStep) (new : List ℕ) → list-left r new ≡ listed (OffPair lower higher) n l (next .at) mid
+        → wiped n (list-left r new) ≡ stored (length l) n row (pair-categories lower higher n l at)
     unfolding pair-categories
     bits-listed r new d =
         let first : List ℕ = map (of-pair lower higher) bits in
-        let k : length first ≡ n = length-map bits (of-pair lower higher) ∙ tabulate-length (number-in one l at) n 0 in
+        let k : length first ≡ n = length-map bits (of-pair lower higher) ∙ digits-length one (drop at l) 0 n in
         let t : take n mid ≡ first = rw bits-row (take-at first (drop n row) n k) in
         let f : drop n mid ≡ drop n row = rw bits-row (rest-of n first row k) in
-        rw (accepted .reads) (list-stored l next n (OffPair lower higher) row mid first t f (list-left r new) d)
+        rw (accepted .reads) (list-stored l (next .at) n (OffPair lower higher) row mid first t f (list-left r new) d)
 
 -- a row that was lent still holds n bytes
 pub still-holds : (n : ℕ) (row mid : List ℕ) → length mid ≡ length row → n ≤ length row → n ≤ length mid

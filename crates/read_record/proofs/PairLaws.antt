@@ -2,7 +2,6 @@
 -- Assumes nothing.
 use mathlib.Core.Path.{_≡_, refl}
 use Prim.Native.Nat.{ℕ}
-use mathlib.Core.Bool.{false}
 use mathlib.Core.List.{List, map, map-map}
 use lib.ListN.{length, take, drop}
 use Rattle.format.specs.declared.Refusal.{Refusal}
@@ -20,10 +19,9 @@ use Rattle.base_cursor.specs.declared.ByteStep.{ByteStep}
 use Rattle.base_cursor.specs.declared.ByteStep.the-variants.{Byte, Refused as NoByte}
 use Rattle.read_packed.specs.Unpacked.{of-pair}
 use Rattle.read_list.specs.Entries.{list-left}
-use Rattle.read_list.specs.Checked.{off-both}
 use Rattle.read_list.specs.declared.ListStep.{ListStep}
 use Rattle.read_list.specs.declared.ListStep.the-variants.{Refused}
-use Rattle.read_record.specs.Rows.{wiped, stored, kind-categories, tracked, pair-categories}
+use Rattle.read_record.specs.Rows.{wiped, stored, kind-categories, tracked, off-both, pair-categories}
 use Rattle.read_record.proofs.CodeLaws.{code-inside, UnderCode, code-missing, code-unknown, code-known}
 
 -- the bits and the list under a known code
@@ -44,18 +42,18 @@ module _ (l : List ℕ) (n : ℕ) (row : List ℕ) (c : PairCode) where
 
 -- `got` is what the byte was
 module _ (l : List ℕ) (start n : ℕ) (row : List ℕ) (got : ByteStep) (told : got ≡ byte-at l start) where
-  pub no-code : (why : Refusal) → got ≡ NoByte why → wiped false n (list-left (Refused why) row) ≡ tracked false paired n l start row
+  pub no-code : (why : Refusal) → got ≡ NoByte why → wiped n (list-left (Refused why) row) ≡ tracked paired n l start row
   unfolding kind-categories
   no-code why e = rw (code-missing l start n (take n row) got told why e)
 
   module _ (code : ℕ) (next : Cursor) (e : got ≡ Byte code next) (f : PairFound) (g : f ≡ found code) where
-    pub unknown-code : f ≡ Unknown → wiped false n (list-left (Refused (refusal 14 start)) row) ≡ tracked false paired n l start row
+    pub unknown-code : f ≡ Unknown → (why : Refusal) → why ≡ refusal 14 start → wiped n (list-left (Refused why) row) ≡ tracked paired n l start row
     unfolding kind-categories
-    unknown-code u = rw (code-unknown l start n (take n row) got told code next e f g u)
+    unknown-code u why w = rw (w, code-unknown l start n (take n row) got told code next e f g u)
 
     pub known-code : (p : Pair) → f ≡ Known p → (r : ListStep) (new : List ℕ)
-        → wiped false n (list-left r new) ≡ stored false (length l) n row (pair-categories (p .lower) (p .higher) n l (next .at))
-        → wiped false n (list-left r new) ≡ tracked false paired n l start row
+        → wiped n (list-left r new) ≡ stored (length l) n row (pair-categories (p .lower) (p .higher) n l (next .at))
+        → wiped n (list-left r new) ≡ tracked paired n l start row
     unfolding kind-categories pair-categories
     known-code p q r new d =
         let u : UnderCode l n p (next .at) (read-kind (length l) n (take n row) paired (drop start l))

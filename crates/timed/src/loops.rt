@@ -1,6 +1,7 @@
 // The library's inner loops as C functions, for bench/ alone. A function that asks something of its caller is called only where that holds; else the
 // answer is `NOT_ASKED`.
 use base_cursor::Cursor;
+use format::FoundInBlock;
 use format::MOST_SAMPLES;
 use format::VARIANTS_TO_A_BLOCK;
 use read_list::ListRule;
@@ -12,7 +13,7 @@ const NOT_ASKED: usize = 18446744073709551615;
 
 fn of_packed(step: PackedStep) -> usize {
     match step {
-        PackedStep::Next(at) => at,
+        PackedStep::Next(next) => next.at,
         PackedStep::Refused(_) => NOT_ASKED,
     }
 }
@@ -25,7 +26,7 @@ pub extern "C" fn timed_unpack_categories(s: &[u8], n: usize, row: &mut [u8]) ->
     if n > row.len() {
         return NOT_ASKED;
     }
-    of_packed(read_packed::unpack_categories(s, 0, n, row))
+    of_packed(read_packed::unpack_categories(s, Cursor { at: 0 }, n, row))
 }
 
 #[no_mangle]
@@ -42,7 +43,7 @@ pub extern "C" fn timed_unpack_pair(
     if n > row.len() {
         return NOT_ASKED;
     }
-    of_packed(read_packed::unpack_pair(s, 0, n, lower, higher, row))
+    of_packed(read_packed::unpack_pair(s, Cursor { at: 0 }, n, lower, higher, row))
 }
 
 #[no_mangle]
@@ -74,13 +75,7 @@ pub extern "C" fn timed_exchange_row(row: &mut [u8], n: usize) {
 
 // The list at `at` of the file cut where its record ends; against the row, as in all kinds but 1.
 #[no_mangle]
-pub extern "C" fn timed_apply_list(
-    s: &[u8],
-    at: usize,
-    n: usize,
-    store: bool,
-    row: &mut [u8],
-) -> usize {
+pub extern "C" fn timed_put_list(s: &[u8], at: usize, n: usize, row: &mut [u8]) -> usize {
     if at > s.len() {
         return NOT_ASKED;
     }
@@ -90,13 +85,13 @@ pub extern "C" fn timed_apply_list(
     if n > row.len() {
         return NOT_ASKED;
     }
-    match read_list::apply_list(s, n, ListRule::OffRow, store, Cursor { at }, row) {
+    match read_list::put_list(s, n, ListRule::OffRow, Cursor { at }, row) {
         ListStep::Listed(next) => next.at,
         ListStep::Refused(_) => NOT_ASKED,
     }
 }
 
-// The first type that is not allowed, of all n of a block.
+// The first type that is not allowed, of all n of a block; n if there is none.
 #[no_mangle]
 pub extern "C" fn timed_bad_in_block(types: &[u8], n: usize, half: bool) -> usize {
     if n == 0 {
@@ -108,7 +103,10 @@ pub extern "C" fn timed_bad_in_block(types: &[u8], n: usize, half: bool) -> usiz
     if head_types::types_size(n, half) > types.len() {
         return NOT_ASKED;
     }
-    head_types::bad_in_block(types, 0, n, half).0
+    match head_types::bad_in_block(types, 0, n, half) {
+        FoundInBlock::At(i) => i.0,
+        FoundInBlock::Nowhere => n,
+    }
 }
 
 // The sum of lengths of 1, 2, 3 or 4 bytes that fill the slice.

@@ -1,8 +1,8 @@
--- `base_pairs::pair_row` meets its contract: by the table's rule.
+-- `base_pairs::pair_row` meets its contract.
 -- Assumes nothing.
 use borrow.Author.Needs.{needs}
 use Rattle.format.specs.PairCode.{pair-codes, pair}
-use Rattle.format.proofs.PairLaws.{table-rule}
+use Rattle.format.proofs.PairLaws.{map-at}
 use Rattle.base_pairs.proofs.pair_row.Statement.{statement}
 use Rattle.base_pairs.proofs.pair_row.Tie as tie
 
@@ -12,4 +12,4 @@ pair-row-spec =
     (tie.spec
     (λ c. search needs)
     (λ c. search needs)
-    (λ c. search (table-rule pair pair-codes, needs)))
+    (λ c. search (map-at pair pair-codes, needs)))

@@ -13,6 +13,5 @@ start-rows-spec =
     (λ c. search (start-laws, needs))
     (λ c. search (start-laws, needs))
     (λ c κs. search (start-laws, needs))
-    (λ c κs. search (start-laws, needs))
     (λ c. search (start-laws, needs))
     (λ c. search (start-laws, needs)))

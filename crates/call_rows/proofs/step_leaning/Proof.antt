@@ -1,7 +1,7 @@
 -- `call_rows::step_leaning` meets its contract.
 -- Assumes nothing.
 use borrow.Author.Needs.{needs}
-use Rattle.call_rows.proofs.StepLaws.{step-laws}
+use Rattle.call_rows.proofs.StepLaws.{step-laws, leaning-accepted}
 use Rattle.call_rows.proofs.step_leaning.Statement.{statement}
 use Rattle.call_rows.proofs.step_leaning.Tie as tie
 
@@ -22,4 +22,12 @@ step-leaning-spec =
     (λ c. search (step-laws, needs))
     (λ c. search (step-laws, needs))
     (λ c. search (step-laws, needs))
-    (λ c. search (step-laws, needs)))
+    (λ c.
+    let read : tie.After-read-body = search in
+    let copied : tie.After-copy = search in
+    let told : tie.After-enum-told = search in
+    let checked : tie.After-check-body = search in
+    let next : tie.After-past = search in
+    let s : tie.Start = search in
+    leaning-accepted _ _ _ _ _ (s .pre) _ (next .past .ensures) (search needs) _ (checked .check-body .ensures) _ _ _ (told .enum-told .given .1)
+    (copied .copy .ensures) (read .read-body .ensures)))

@@ -10,7 +10,9 @@ check-categories-spec =
     tie.close
     (tie.spec
     (λ c κs. search (category-laws, needs))
+    (λ c κs. search (category-laws, needs))
     (λ c. search (category-laws, needs))
+    (λ c κs. search (category-laws, needs))
     (λ c κs. search (category-laws, needs))
     (λ c. search (category-laws, needs))
     (λ c. search (category-laws, needs)))

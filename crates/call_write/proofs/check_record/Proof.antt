@@ -9,11 +9,15 @@ pub check-record-spec : {M : Type 1} → statement M
 check-record-spec =
     tie.close
     (tie.spec
+    (λ c κs. search (check-laws, needs))
     (λ c. search (check-laws, needs))
+    (λ c κs. search (check-laws, needs))
     (λ c. search (check-laws, needs))
     (λ c κs. search (check-laws, needs))
     (λ c κs. search (check-laws, needs))
+    (λ c κs. search (check-laws, needs))
     (λ c. search (check-laws, needs))
+    (λ c κs. search (check-laws, needs))
     (λ c κs. search (check-laws, needs))
     (λ c. search (check-laws, needs))
     (λ c κs. search (check-laws, needs))

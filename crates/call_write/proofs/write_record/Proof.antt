@@ -13,6 +13,7 @@ write-record-spec =
     (λ c. search (call-laws, needs))
     (λ c. search (call-laws, needs))
     (λ c κs. search (call-laws, needs))
+    (λ c κs. search (call-laws, needs))
     (λ c. search (call-laws, needs))
     (λ c κs. search (call-laws, needs))
     (λ c. search (call-laws, needs))

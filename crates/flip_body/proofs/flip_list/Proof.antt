@@ -17,7 +17,7 @@ flip-list-spec =
     (λ c. search (list-laws, needs))
     (λ c κs. search needs)
     (λ c. search (list-laws, needs))
-    (λ c. search (list-laws, needs))
+    (λ c κs. search (list-laws, needs))
     (λ c κs. search needs)
     (λ c. search needs)
     (λ c. search (list-laws, needs))

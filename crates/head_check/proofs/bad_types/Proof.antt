@@ -10,7 +10,9 @@ bad-types-spec =
     tie.close
     (tie.spec
     (λ c κs. search (eight-laws, needs))
+    (λ c. search (eight-laws, needs))
     (λ c κs. search (eight-laws, needs))
     (λ c κs. search (eight-laws, needs))
+    (λ c. search (eight-laws, needs))
     (λ c. search (eight-laws, needs))
     (λ c. search (eight-laws, needs)))

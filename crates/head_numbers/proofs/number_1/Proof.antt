@@ -1,7 +1,7 @@
 -- `head_numbers::number_1` meets its contract.
 -- Assumes nothing.
 use borrow.Author.Needs.{needs}
-use Rattle.head_numbers.proofs.Sums.{low-byte}
+use Rattle.head_index.proofs.ByIndex.{low-byte}
 use Rattle.head_numbers.proofs.number_1.Statement.{statement}
 use Rattle.head_numbers.proofs.number_1.Tie as tie
 

@@ -1,7 +1,7 @@
 -- `head_records::four_at` meets its contract.
 -- Assumes nothing.
 use borrow.Author.Needs.{needs}
-use Rattle.head_numbers.proofs.Sums.{low-byte, high-byte}
+use Rattle.head_index.proofs.ByIndex.{low-byte, high-byte}
 use Rattle.head_records.proofs.four_at.Statement.{statement}
 use Rattle.head_records.proofs.four_at.Tie as tie
 

@@ -12,6 +12,7 @@ check-bits-spec =
     (λ c κs. search (part-laws, needs))
     (λ c. search (part-laws, needs))
     (λ c. search (part-laws, needs))
+    (λ c. search (part-laws, needs))
     (λ c κs. search (part-laws, needs))
     (λ c. search (part-laws, needs))
     (λ c. search (part-laws, needs)))

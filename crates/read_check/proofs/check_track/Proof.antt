@@ -13,6 +13,7 @@ check-track-spec =
     (λ c. search (track-laws, needs))
     (λ c κs. search (track-laws, needs))
     (λ c. search (track-laws, needs))
+    (λ c κs. search (track-laws, needs))
     (λ c. search (track-laws, needs))
     (λ c κs. search (track-laws, needs))
     (λ c. search (track-laws, needs)))

@@ -9,9 +9,10 @@ pub read-count-spec : {M : Type 1} → statement M
 read-count-spec =
     tie.close
     (tie.spec
-    (λ c κs. search (count-laws, needs))
-    (λ c. search (count-laws, needs))
-    (λ c. search (count-laws, needs))
+    (λ c κs. search needs)
+    (λ c. search needs)
+    (λ c. search needs)
+    (λ c κs. search needs)
     (λ c. search (count-laws, needs))
     (λ c. search (count-laws, needs))
     (λ c. search (count-laws, needs)))

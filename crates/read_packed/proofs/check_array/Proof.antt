@@ -9,12 +9,14 @@ pub check-array-spec : {M : Type 1} → statement M
 check-array-spec =
     tie.close
     (tie.spec
-    (λ c κs. search (check-laws, needs))
+    (λ c κs. search needs)
+    (λ c. search needs)
+    (λ c κs. search needs)
     (λ c. search (check-laws, needs))
+    (λ c κs. search needs)
+    (λ c. search needs)
     (λ c. search (check-laws, needs))
-    (λ c κs. search (check-laws, needs))
+    (λ c κs. search needs)
     (λ c. search (check-laws, needs))
-    (λ c. search (check-laws, needs))
-    (λ c. search (check-laws, needs))
-    (λ c. search (check-laws, needs))
+    (λ c κs. search needs)
     (λ c. search (check-laws, needs)))

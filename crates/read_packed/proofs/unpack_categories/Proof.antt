@@ -9,10 +9,10 @@ pub unpack-categories-spec : {M : Type 1} → statement M
 unpack-categories-spec =
     tie.close
     (tie.spec
+    (λ c κs. search needs)
+    (λ c. search needs)
+    (λ c. search needs)
     (λ c κs. search (unpack-laws, needs))
     (λ c. search (unpack-laws, needs))
-    (λ c. search (unpack-laws, needs))
-    (λ c κs. search (unpack-laws, needs))
-    (λ c. search (unpack-laws, needs))
-    (λ c. search (unpack-laws, needs))
+    (λ c. search needs)
     (λ c. search (unpack-laws, needs)))

@@ -9,11 +9,11 @@ pub unpack-pair-spec : {M : Type 1} → statement M
 unpack-pair-spec =
     tie.close
     (tie.spec
+    (λ c κs. search needs)
+    (λ c. search needs)
+    (λ c. search needs)
     (λ c κs. search (unpack-laws, needs))
+    (λ c κs. search needs)
     (λ c. search (unpack-laws, needs))
-    (λ c. search (unpack-laws, needs))
-    (λ c κs. search (unpack-laws, needs))
-    (λ c κs. search (unpack-laws, needs))
-    (λ c. search (unpack-laws, needs))
-    (λ c. search (unpack-laws, needs))
+    (λ c. search needs)
     (λ c. search (unpack-laws, needs)))

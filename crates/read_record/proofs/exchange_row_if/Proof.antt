@@ -9,7 +9,6 @@ pub exchange-row-if-spec : {M : Type 1} → statement M
 exchange-row-if-spec =
     tie.close
     (tie.spec
-    (λ c. search (leaning-laws, needs))
     (λ c κs. search (leaning-laws, needs))
     (λ c. search (leaning-laws, needs))
     (λ c. search (leaning-laws, needs))

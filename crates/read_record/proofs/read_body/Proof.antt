@@ -11,11 +11,9 @@ read-body-spec =
     (tie.spec
     (λ c κs. search (body-laws, needs))
     (λ c κs. search (body-laws, needs))
-    (λ c. search (body-laws, needs))
     (λ c κs. search (body-laws, needs))
     (λ c. search (body-laws, needs))
     (λ c κs. search (body-laws, needs))
-    (λ c. search (body-laws, needs))
     (λ c. search (body-laws, needs))
     (λ c. search (body-laws, needs))
     (λ c. search (body-laws, needs))

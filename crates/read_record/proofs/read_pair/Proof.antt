@@ -14,6 +14,7 @@ read-pair-spec =
     (λ c. search (pair-laws, needs))
     (λ c κs. search (pair-laws, needs))
     (λ c. search (pair-laws, needs))
+    (λ c κs. search (pair-laws, needs))
     (λ c. search (pair-laws, needs))
     (λ c κs. search (pair-laws, needs))
     (λ c. search (pair-laws, needs))

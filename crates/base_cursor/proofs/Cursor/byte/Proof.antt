@@ -12,4 +12,5 @@ byte-spec =
     (λ c. search needs)
     (λ c. search needs)
     (λ c. search (byte-laws, needs))
+    (λ c κs. search needs)
     (λ c. search (byte-laws, needs)))

@@ -9,18 +9,9 @@ pub varint-spec : {M : Type 1} → statement M
 varint-spec =
     tie.close
     (tie.spec
+    (λ c κs. search needs)
+    (λ c. search needs)
+    (λ c. search needs)
+    (λ c κs. search needs)
     (λ c. search (varint-laws, needs))
-    (λ c. search (varint-laws, needs))
-    (λ c. search (varint-laws, needs))
-    (λ c. search (varint-laws, needs))
-    (λ c. search (varint-laws, needs))
-    (λ c. search (varint-laws, needs))
-    (λ c. search (varint-laws, needs))
-    (λ c. search (varint-laws, needs))
-    (λ c. search (varint-laws, needs))
-    (λ c. search (varint-laws, needs))
-    (λ c. search (varint-laws, needs))
-    (λ c. search (varint-laws, needs))
-    (λ c. search (varint-laws, needs))
-    (λ c κs. search (varint-laws, needs))
     (λ c. search (varint-laws, needs)))

@@ -1,17 +1,30 @@
 -- `read_list::check::check_entry` meets its contract.
 -- Assumes nothing.
+use mathlib.Core.Path.{_≡_}
+use mathlib.Core.Logic.{⊎-elim}
+use denote.Ref.{now}
 use borrow.Author.Needs.{needs}
-use Rattle.read_list.proofs.CheckLaws.{entry-laws}
+use Rattle.read_list.specs.Entries.{next-sample}
+use Rattle.read_list.proofs.SampleLaws.{sample-laws}
+use Rattle.read_list.proofs.EntryLaws.{check-entry-laws}
 use Rattle.read_list.proofs.check.check_entry.Statement.{statement}
 use Rattle.read_list.proofs.check.check_entry.Tie as tie
+
+-- a head or a step, it is the next sample
+abbrev start : tie.Joined1 → tie.Start
+start j = search
+
+sample : (j : tie.Joined1) → let a = start j .args in j .if1 .got ≡ next-sample (now (a .s)) (a .n) (a .st)
+sample j = ⊎-elim (λ w. search (sample-laws, needs)) (λ w. search (sample-laws, needs)) (j .if1 .came)
 
 pub check-entry-spec : {M : Type 1} → statement M
 check-entry-spec =
     tie.close
     (tie.spec
-    (λ c κs. search (entry-laws, needs))
-    (λ c. search (entry-laws, needs))
-    (λ c. search (entry-laws, needs))
-    (λ c κs. search (entry-laws, needs))
-    (λ c. search (entry-laws, needs))
-    (λ c. search (entry-laws, needs)))
+    (λ c κs. search needs)
+    (λ c κs. search needs)
+    (λ c. search needs)
+    (λ c. search needs)
+    (λ c κs. let j : tie.Joined1 = search in search (check-entry-laws, sample j, needs))
+    (λ c. let j : tie.Joined1 = search in search (check-entry-laws, sample j, needs))
+    (λ c. let j : tie.Joined1 = search in search (check-entry-laws, sample j, needs)))

@@ -1,30 +1,24 @@
 -- `read_list::check::check_short_steps` meets its contract.
 -- Assumes nothing.
-use denote.Ref.{now}
-use mathlib.Core.List.{[]}
 use borrow.Author.Needs.{needs}
-use Rattle.read_list.specs.declared.ListRule.the-variants.{OffPair}
-use Rattle.read_list.specs.Room.{Short}
-use Rattle.read_list.proofs.CheckLaws.{Running, running-laws, running-on, short-there}
+use Rattle.read_list.specs.Walked.{Checking}
+use Rattle.read_list.proofs.LoopLaws.{less}
+use Rattle.read_list.proofs.CheckLaws.{check-short-laws, check-passed, check-short}
 use Rattle.read_list.proofs.check.check_short_steps.Statement.{statement}
 use Rattle.read_list.proofs.check.check_short_steps.Tie as tie
 
 abbrev Inv-loop : tie.InvT-loop
-Inv-loop s n values lower higher count first more₀ run₀ st more run = Running s n values lower higher count first st more run
+Inv-loop s n values held count row st₀ more₀ st more = Checking s n values held count st₀ row st more
 
 abbrev μ-loop : tie.MeasureT-loop
-μ-loop s n values lower higher count first more₀ run₀ st more run = run
+μ-loop s n values held count row st₀ more₀ st more = more
 
--- past the test
-abbrev loop : tie.Else1 Inv-loop μ-loop → tie.At-loop Inv-loop μ-loop
-loop e = search
-
-abbrev start : tie.At-loop Inv-loop μ-loop → tie.Start Inv-loop μ-loop
-start w = search
-
-short : (e : tie.Else1 Inv-loop μ-loop)
-    → let w = loop e in let a = start w .args in Short (now (a .s)) (a .n) (a .values) (OffPair (a .lower) (a .higher)) (w .loop .st) []
-short e = search short-there
+-- past the tests, in a turn of the loop
+abbrev turn : tie.Else4 Inv-loop μ-loop → tie.In-loop Inv-loop μ-loop
+turn e =
+    let e3 : tie.Else3 Inv-loop μ-loop = search in
+    let e1 : tie.Else1 Inv-loop μ-loop = search in
+    search
 
 pub check-short-steps-spec : {M : Type 1} → statement M
 check-short-steps-spec =
@@ -32,20 +26,33 @@ check-short-steps-spec =
     (tie.spec
     Inv-loop
     μ-loop
-    (λ c κs. search (running-laws, needs))
-    (λ c. search (running-laws, needs))
-    (λ c κs. search (running-laws, needs))
-    (λ c. search (running-laws, needs))
-    (λ c κs. search (running-laws, needs))
-    (λ c. search (running-laws, needs))
-    (λ c. let e : tie.Else1 Inv-loop μ-loop = search in search (short e, needs))
-    (λ c. let e : tie.Else1 Inv-loop μ-loop = search in search (short e, needs))
-    (λ c. let e : tie.Else1 Inv-loop μ-loop = search in search (short e, needs))
-    (λ c. let e : tie.Else1 Inv-loop μ-loop = search in search (short e, needs))
-    (λ c. search (running-laws, needs))
-    (λ c. let e : tie.Else1 Inv-loop μ-loop = search in search (short e, needs))
-    (λ c. search (running-laws, needs))
-    (λ c. search (running-laws, needs))
-    (λ c. search (running-laws, needs))
-    (λ c. let e : tie.Else1 Inv-loop μ-loop = search in search (running-on, short e))
-    (λ c. search (running-laws, needs)))
+    (λ c. search (check-short-laws, needs))
+    (λ c. search (check-short-laws, needs))
+    (λ c κs. search (check-short-laws, needs))
+    (λ c. search (check-short-laws, needs))
+    (λ c. search (check-short-laws, needs))
+    (λ c. search (check-short-laws, needs))
+    (λ c. search (check-short-laws, needs))
+    (λ c. search (check-short-laws, needs))
+    (λ c. search (check-short-laws, needs))
+    (λ c. search (check-short-laws, needs))
+    (λ c κs. search (check-short-laws, needs))
+    (λ c κs. search (check-short-laws, needs))
+    (λ c. search (check-short-laws, needs))
+    (λ c. search (check-short-laws, needs))
+    (λ c. let e : tie.Else4 Inv-loop μ-loop = search in check-passed (turn e .before .loop .inv) (turn e .loop-test .taken))
+    (λ c. let e : tie.Else4 Inv-loop μ-loop = search in turn e .loop-test .taken)
+    (λ c. let e : tie.Else4 Inv-loop μ-loop = search in less (turn e .loop-test .taken))
+    (λ c.
+    let e : tie.Else4 Inv-loop μ-loop = search in
+    let m : tie.After-may-hold Inv-loop μ-loop = search in
+    let v : tie.After-two-bits Inv-loop μ-loop = search in
+    let e3 : tie.Else3 Inv-loop μ-loop = search in
+    let e2 : tie.Else2 Inv-loop μ-loop = search in
+    let told : tie.After-step Inv-loop μ-loop = search in
+    let s : tie.After-short Inv-loop μ-loop = search in
+    let e1 : tie.Else1 Inv-loop μ-loop = search in
+    let k : tie.After-shared-slice-known Inv-loop μ-loop = search in
+    check-short (turn e .before .loop .inv) (turn e .loop-test .taken) (e3 .if3 .left) (k .shared-slice-known .given) (e1 .if1 .left) (s .short .ensures)
+    (told .step .given .1) (e2 .if2 .left) (v .two-bits .ensures) (m .may-hold .ensures) (e .if4 .left))
+    (λ c. search (check-short-laws, needs)))

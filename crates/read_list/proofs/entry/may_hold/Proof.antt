@@ -9,8 +9,9 @@ pub may-hold-spec : {M : Type 1} → statement M
 may-hold-spec =
     tie.close
     (tie.spec
+    (λ c. search needs)
     (λ c. search (held-laws, needs))
-    (λ c. search (held-laws, needs))
+    (λ c. search needs)
     (λ c. search (held-laws, needs))
     (λ c. search (held-laws, needs))
     (λ c. search (held-laws, needs)))

@@ -1,7 +1,6 @@
 -- `read_list::entry::take_head` meets its contract.
 -- Assumes nothing.
 use borrow.Author.Needs.{needs}
-use Rattle.read_list.proofs.NumberLaws.{wide, narrow}
 use Rattle.read_list.proofs.SampleLaws.{head-laws}
 use Rattle.read_list.proofs.entry.take_head.Statement.{statement}
 use Rattle.read_list.proofs.entry.take_head.Tie as tie
@@ -11,8 +10,9 @@ take-head-spec =
     tie.close
     (tie.spec
     (λ c κs. search needs)
-    (λ c κs. (search (wide, needs), search (narrow, needs), search needs))
+    (λ c κs. search (head-laws, needs))
+    (λ c κs. search needs)
     (λ c. search (head-laws, needs))
-    (λ c. search (head-laws, needs))
+    (λ c κs. search needs)
     (λ c. search (head-laws, needs))
     (λ c. search (head-laws, needs)))

@@ -9,13 +9,15 @@ pub take-step-spec : {M : Type 1} → statement M
 take-step-spec =
     tie.close
     (tie.spec
-    (λ c κs. search (step-laws, needs))
+    (λ c κs. search needs)
+    (λ c. search needs)
+    (λ c. search needs)
+    (λ c κs. search needs)
     (λ c. search (step-laws, needs))
+    (λ c. search needs)
+    (λ c κs. search needs)
     (λ c. search (step-laws, needs))
-    (λ c. search (step-laws, needs))
-    (λ c. search (step-laws, needs))
-    (λ c. search (step-laws, needs))
-    (λ c. search (step-laws, needs))
-    (λ c. search (step-laws, needs))
+    (λ c. search needs)
+    (λ c. search needs)
     (λ c. search (step-laws, needs))
     (λ c. search (step-laws, needs)))

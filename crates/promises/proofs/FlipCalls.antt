@@ -1,0 +1,255 @@
+-- DEMAND 3 of calls one after another: from one flip that was accepted it follows that the next is accepted too, and what it leaves.
+-- Assumes nothing.
+use mathlib.Core.Path.{_≡_, refl, sym, ap, ap₂, _∙_, subst, fun-ext}
+use Prim.Native.Nat.{ℕ, zero, _≤_, _<_}
+use mathlib.Core.Bool.{Bool, true, false, _&&_}
+use mathlib.Core.List.{List, [], _++_}
+use lib.ListN.{length, take, drop, getD}
+use lib.Seq.{take-at, drop-at}
+use lib.Dec.{ltb, leb}
+use native.Mathlib.Omega.{arith}
+use borrow.Author.Tests.{ltb-true}
+use Rattle.format.specs.declared.FileVariant.{FileVariant}
+use Rattle.format.specs.Base.{Bytes, Out, ok, bind, need}
+use Rattle.format.specs.Category.{exchange-all, just-one}
+use Rattle.format.specs.Variant.{file-variant}
+use Rattle.format.specs.Layout.{Layout}
+use Rattle.format.specs.File.{File, layout-of-file, file-bytes, rows, Obeys, read-variant, flip-file, pgen-file, flip-bytes}
+use Rattle.format.specs.Reply.{Read, verdict, refusal-of, given, work-after, samples-of, holds-row, need-variant, member, check-out, check-call}
+use Rattle.format.specs.Reply.{read-out, read-call, flip-call}
+use Rattle.format.proofs.Rules.{Holds, never-both}
+use Rattle.format.proofs.CategoryLaws.{exchange-all-none, exchange-all-length}
+use Rattle.format.proofs.FlipBodiesLaws.{flip-count}
+use Rattle.format.proofs.ContainerLaws
+use Rattle.format.proofs.FlipLaws.{flip-obeys, pgen-laws, flip-xor, flip-twice}
+use Rattle.format.proofs.HeaderLaws.{layout-read-back}
+use Rattle.format.proofs.FileLaws.{file-unique}
+use Rattle.format.proofs.ReadsLaws.{variant-reads}
+use Rattle.promises.proofs.CallLaws.{counted, passes}
+use Rattle.promises.proofs.ReadExactly.{VariantReads, variant-as-written, variant-row}
+use Rattle.promises.proofs.FlipExactly.{IsSet, MayFlip, flip-passes, flip-exactly}
+
+-- ---- a read and the same read of the flipped file
+
+-- reply and work area are the same, and all of the output but the first N bytes of an accepted read: there 0 and 2 are exchanged for a member
+pub record ReadsExchanged (is-member : Bool) (N : ℕ) (before now : Read) : Type 0 where
+  pub same-verdict : now .verdict ≡ before .verdict
+  pub same-work : now .work ≡ before .work
+  pub exchanged : before .verdict .accepted ≡ true → take N (now .output) ≡ exchange-all is-member (take N (before .output))
+  pub rest-same : drop N (now .output) ≡ drop N (before .output)
+  pub refused-alike : before .verdict .accepted ≡ false → now .output ≡ before .output
+
+-- what a read leaves, by what was read
+abbrev reading : ℕ → List ℕ → List ℕ → Out (List ℕ) → Read
+reading N output work out = record {
+  verdict = verdict out;
+  output = given (λ (row : List ℕ). row ++ drop N output) output out;
+  work = work-after N (refusal-of out) work;
+}
+
+-- the tests of a read: of the buffers' sizes and of the variant
+abbrev tested : Bool → Bool → List ℕ → Out (List ℕ)
+tested sized there row = need sized 10 0 (need there 11 0 (ok row []))
+
+compared : (b sized there : Bool) (N : ℕ) (row output work : List ℕ) → (there ≡ true → length row ≡ N)
+    → ReadsExchanged b N (reading N output work (tested sized there row)) (reading N output work (tested sized there (exchange-all b row)))
+compared b true true N row output work n =
+    let turned : length (exchange-all b row) ≡ N = exchange-all-length b row ∙ n refl in
+    record {
+      same-verdict = refl;
+      same-work = refl;
+      exchanged = λ t. take-at (exchange-all b row) (drop N output) N turned ∙ sym (ap (exchange-all b) (take-at row (drop N output) N (n refl)));
+      rest-same = drop-at (exchange-all b row) (drop N output) N turned ∙ sym (drop-at row (drop N output) N (n refl));
+      refused-alike = λ t. never-both refl t;
+    }
+compared b true false N row output work n =
+    record { same-verdict = refl; same-work = refl; exchanged = λ t. never-both t refl; rest-same = refl; refused-alike = λ t. refl }
+compared b false there N row output work n =
+    record { same-verdict = refl; same-work = refl; exchanged = λ t. never-both t refl; rest-same = refl; refused-alike = λ t. refl }
+
+module _ (K : ℕ) (p : zero < K) where
+  -- the refusal's number, and the file as a flip leaves it
+  abbrev pub number : List ℕ → List ℕ → List ℕ → ℕ
+  number file set work = flip-call K file set work .verdict .refusal .number
+
+  abbrev pub after : List ℕ → List ℕ → List ℕ → List ℕ
+  after file set work = flip-call K file set work .file
+
+  -- ---- a flip that may be made
+
+  -- what it leaves, on the bytes and as a file
+  left-bytes : (file set work : List ℕ) (f : File) → Bytes set → MayFlip K file set work f → after file set work ≡ flip-bytes K (member set) file
+  unfolding flip-call
+  left-bytes file set work f z m = ap (given (λ (l : Layout). flip-bytes K (member set) file) file) (flip-passes K file set work p z f m)
+
+  left-file : (file set work : List ℕ) (f : File) → Bytes set → MayFlip K file set work f → after file set work ≡ file-bytes K (flip-file (member set) f)
+  unfolding flip-bytes
+  left-file file set work f z m =
+      left-bytes file set work f z m
+      ∙ ContainerLaws.stored-flip (pgen-file K) (pgen-laws K p) (member set) file f (m .obeys) (m .written)
+
+  flip-accepted : (file set work : List ℕ) (f : File) → Bytes set → MayFlip K file set work f → number file set work ≡ 0
+  unfolding flip-call
+  flip-accepted file set work f z m = ap (λ (out : Out Layout). refusal-of out .number) (flip-passes K file set work p z f m)
+
+  -- N of a file that obeys
+  samples-are : (file : List ℕ) (f : File) → Obeys K f → file ≡ file-bytes K f → samples-of K file ≡ f .samples
+  unfolding file-bytes
+  samples-are file f h w =
+      ap (λ (bs : List ℕ). samples-of K bs) w
+      ∙ ap (given (λ (l : Layout). l .samples) 0) (layout-read-back K (layout-of-file f) p (h .layout))
+
+  -- the next one, of a set and with a work area that are in order
+  next-may : (file set work : List ℕ) (f : File) → Bytes set → MayFlip K file set work f → (second work₂ : List ℕ) → IsSet (length (f .bodies)) second
+      → f .samples ≤ length work₂ → MayFlip K (after file set work) second work₂ (flip-file (member set) f)
+  next-may file set work f z m second work₂ s r = record {
+    obeys = flip-obeys K (member set) f (m .obeys);
+    written = left-file file set work f z m;
+    is-set = subst (λ (M : ℕ). IsSet M second) (sym (flip-count (member set) (file-variant 0) false (f .bodies))) s;
+    room = r;
+  }
+
+  -- ---- a read of a file that obeys
+
+  abbrev row : File → FileVariant → List ℕ
+  row f v = getD (rows (f .samples) [] (f .bodies)) (v .0) []
+
+  read-of-file : (f : File) (v : FileVariant) (output work : List ℕ) → Obeys K f
+      → read-out K (file-bytes K f) v output work
+      ≡ tested (leb (f .samples) (length output) && leb (f .samples) (length work)) (ltb (v .0) (length (f .bodies))) (row f v)
+  unfolding file-bytes
+  read-of-file f v output work h =
+      let l : Layout = layout-of-file f in
+      ap (λ (out : Out Layout). bind out (λ m left.
+      need (holds-row output m && holds-row work m) 10 0 (need-variant v m (read-variant K m v)))) (layout-read-back K l p (h .layout))
+      ∙ ap (need (leb (f .samples) (length output) && leb (f .samples) (length work)) 10 0)
+      (ap (λ (M : ℕ). need (ltb (v .0) M) 11 0 (read-variant K l v)) (counted f) ∙ go (ltb (v .0) (length (f .bodies))) refl)
+    where
+      go : (b : Bool) → ltb (v .0) (length (f .bodies)) ≡ b
+          → need b 11 0 (read-variant K (layout-of-file f) v) ≡ need b 11 0 (ok (row f v) [])
+      go true t = variant-reads K f p h v (ltb-true (v .0) (length (f .bodies)) t)
+      go false t = refl
+
+  -- a row has N categories
+  row-counted : (file : List ℕ) (f : File) (v : FileVariant) → Bytes file → Obeys K f → file ≡ file-bytes K f → v .0 < length (f .bodies)
+      → length (row f v) ≡ f .samples
+  unfolding file-bytes
+  row-counted file f v y h w there =
+      let l : Layout = layout-of-file f in
+      let reads : VariantReads K l v (row f v)
+      = subst (Holds (λ (x left : List ℕ). VariantReads K l v x)) (variant-reads K f p h v there) (variant-as-written K file p y l (h .layout) w v) in
+      variant-row K l v (row f v) p (h .layout) (omega (arith, counted f)) reads .0
+
+  -- ---- one call after another
+
+  module _ (file set work : List ℕ) (y : Bytes file) (z : Bytes set) (q : number file set work ≡ 0) where
+    -- what the first call was accepted for
+    first : (f : File) × MayFlip K file set work f
+    first = flip-exactly K file set work p z y .0 q
+
+    room-for : (lent : List ℕ) → samples-of K file ≤ length lent → first .0 .samples ≤ length lent
+    room-for lent r = subst (λ (N : ℕ). N ≤ length lent) (samples-are file (first .0) (first .1 .obeys) (first .1 .written)) r
+
+    -- DEMAND 3: "the file is still accepted": a whole-file check of what the flip left
+    pub flip-call-checked : (work₂ : List ℕ) → samples-of K file ≤ length work₂ → check-call K (after file set work) work₂ .reply .verdict .refusal .number ≡ 0
+    unfolding check-call
+    flip-call-checked work₂ r =
+        ap (λ (out : Out Layout). refusal-of out .number)
+        (ap (λ (bs : List ℕ). check-out K bs work₂) (left-file file set work (first .0) z (first .1))
+        ∙ passes K (flip-file (member set) (first .0)) work₂ p (flip-obeys K (member set) (first .0) (first .1 .obeys)) (room-for work₂ r))
+
+    -- DEMAND 3: a flip that was accepted, then one with the same set: it is accepted, and "twice restores the file"
+    pub flip-call-twice : (work₂ : List ℕ) → samples-of K file ≤ length work₂
+        → (number (after file set work) set work₂ ≡ 0) × (after (after file set work) set work₂ ≡ file)
+    flip-call-twice work₂ r =
+        let f : File = first .0 in
+        let m : MayFlip K (after file set work) set work₂ (flip-file (member set) f)
+        = next-may file set work f z (first .1) set work₂ (first .1 .is-set) (room-for work₂ r) in (
+          flip-accepted (after file set work) set work₂ (flip-file (member set) f) z m,
+          left-bytes (after file set work) set work₂ (flip-file (member set) f) z m
+              ∙ ap (flip-bytes K (member set)) (left-bytes file set work f z (first .1))
+              ∙ flip-twice K (member set) file p y,
+        )
+
+    -- DEMAND 3: two sets that are accepted each. One after the other they are accepted, the set of those in just one of the two is accepted, and this
+    -- leaves byte for byte what they leave
+    pub flip-call-xor : (second work₂ both work₃ : List ℕ) → Bytes second → Bytes both → number file second work₂ ≡ 0
+        → length both ≡ length set → ((v : FileVariant) → member both v ≡ just-one (member second v) (member set v)) → samples-of K file ≤ length work₃
+        → (number (after file set work) second work₂ ≡ 0) × (number file both work₃ ≡ 0)
+        × (after (after file set work) second work₂ ≡ after file both work₃)
+    flip-call-xor second work₂ both work₃ z₂ z₃ q₂ n e r =
+        let f : File = first .0 in
+        let g = flip-exactly K file second work₂ p z₂ y .0 q₂ in
+        let same : g .0 ≡ f = file-unique K (g .0) f p (g .1 .obeys) (first .1 .obeys) (sym (g .1 .written) ∙ first .1 .written) in
+        let m₂ : MayFlip K file second work₂ f = subst (MayFlip K file second work₂) same (g .1) in
+        let m : MayFlip K (after file set work) second work₂ (flip-file (member set) f)
+        = next-may file set work f z (first .1) second work₂ (m₂ .is-set) (m₂ .room) in
+        let m₃ : MayFlip K file both work₃ f = record {
+          obeys = first .1 .obeys;
+          written = first .1 .written;
+          is-set = record {
+            sized = n ∙ first .1 .is-set .sized;
+            none-past = λ v a. e v ∙ ap₂ just-one (m₂ .is-set .none-past v a) (first .1 .is-set .none-past v a);
+          };
+          room = room-for work₃ r;
+        } in (
+          flip-accepted (after file set work) second work₂ (flip-file (member set) f) z₂ m,
+          flip-accepted file both work₃ f z₃ m₃,
+          left-bytes (after file set work) second work₂ (flip-file (member set) f) z₂ m
+              ∙ ap (flip-bytes K (member second)) (left-bytes file set work f z (first .1))
+              ∙ flip-xor K (member second) (member set) file p y
+              ∙ ap (λ (x : FileVariant → Bool). flip-bytes K x file) (sym (fun-ext e))
+              ∙ sym (left-bytes file both work₃ f z₃ m₃),
+        )
+
+    -- what is read once the set is flipped, of any variant and with any buffers
+    module _ (v : FileVariant) (output work₂ : List ℕ) where
+      abbrev f : File
+      f = first .0
+
+      abbrev sized : Bool
+      sized = leb (f .samples) (length output) && leb (f .samples) (length work₂)
+
+      abbrev there : Bool
+      there = ltb (v .0) (length (f .bodies))
+
+      before-is : read-call K file v output work₂ ≡ reading (f .samples) output work₂ (tested sized there (row f v))
+      unfolding read-call
+      before-is =
+          ap₂ (λ (N : ℕ) (out : Out (List ℕ)). reading N output work₂ out) (samples-are file f (first .1 .obeys) (first .1 .written))
+          (ap (λ (bs : List ℕ). read-out K bs v output work₂) (first .1 .written) ∙ read-of-file f v output work₂ (first .1 .obeys))
+
+      turned : (b : Bool) → there ≡ b → need b 11 0 (ok (row (flip-file (member set) f) v) []) ≡ need b 11 0 (ok (exchange-all (member set v) (row f v)) [])
+      turned true t =
+          ap (λ (r : List ℕ). ok r [])
+          (pgen-laws K p .flip-row (member set) f (first .1 .obeys) v (ltb-true (v .0) (length (f .bodies)) t))
+      turned false t = refl
+
+      now-is : read-call K (after file set work) v output work₂
+          ≡ reading (f .samples) output work₂ (tested sized there (exchange-all (member set v) (row f v)))
+      unfolding read-call
+      now-is =
+          let g : File = flip-file (member set) f in
+          let h : Obeys K g = flip-obeys K (member set) f (first .1 .obeys) in
+          let w : after file set work ≡ file-bytes K g = left-file file set work f z (first .1) in
+          ap₂ (λ (N : ℕ) (out : Out (List ℕ)). reading N output work₂ out) (samples-are (after file set work) g h w)
+          (ap (λ (bs : List ℕ). read-out K bs v output work₂) w
+          ∙ read-of-file g v output work₂ h
+          ∙ ap (λ (M : ℕ). tested sized (ltb (v .0) M) (row g v)) (flip-count (member set) (file-variant 0) false (f .bodies))
+          ∙ ap (need sized 10 0) (turned there refl))
+
+      -- DEMAND 3: "members read with categories 0 and 2 exchanged", whatever else a read gives as before
+      pub flip-call-reads : ReadsExchanged (member set v) (samples-of K file)
+          (read-call K file v output work₂) (read-call K (after file set work) v output work₂)
+      flip-call-reads =
+          rw (samples-are file f (first .1 .obeys) (first .1 .written), before-is, now-is)
+          (compared (member set v) sized there (f .samples) (row f v) output work₂ (λ t.
+          row-counted file f v y (first .1 .obeys) (first .1 .written) (ltb-true (v .0) (length (f .bodies)) t)))
+
+      -- "all others as before"
+      pub flip-call-others : member set v ≡ false → read-call K (after file set work) v output work₂ ≡ read-call K file v output work₂
+      flip-call-others n =
+          now-is
+          ∙ ap (λ (r : List ℕ). reading (f .samples) output work₂ (tested sized there r))
+          (ap (λ (b : Bool). exchange-all b (row f v)) n ∙ exchange-all-none (row f v))
+          ∙ sym before-is
