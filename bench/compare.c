@@ -3,12 +3,12 @@
 #include "make.h"
 #include "measure.h"
 
-static u8 out_1[66000], out_2[66000], work_1[66000], work_2[66000], set[1000];
+static u8 out_1[66000], out_2[66000], phases_1[66000], phases_2[66000], work_1[66000], work_2[66000], set[1000];
 static usize counts[22], compared;
 
 static void reset(void)
 {
-    for (usize i = 0; i < sizeof out_1; i++) out_1[i] = out_2[i] = work_1[i] = work_2[i] = i * 7;
+    for (usize i = 0; i < sizeof out_1; i++) out_1[i] = out_2[i] = phases_1[i] = phases_2[i] = work_1[i] = work_2[i] = i * 7;
 }
 
 static void same(const char *what, struct told a, struct told b)
@@ -30,7 +30,7 @@ static void same_file(const char *what, struct file_told a, struct file_told b)
     same(what, (struct told){a.refusal, a.place, 0}, (struct told){b.refusal, b.place, 0});
 }
 
-// Each row of a walk through the file is what a read of that variant gives.
+// Each row of a walk through the file, and its phases, are what a read of that variant gives. The steps with phases and those without may be mixed.
 static void all_rows(struct file f)
 {
     reset();
@@ -38,9 +38,13 @@ static void all_rows(struct file f)
     struct file_told header = plain_header_check(f.bytes, f.size);
     if (r.refusal != header.refusal || r.place != header.place) fail("start of rows");
     for (usize v = 0; v < f.variants && header.refusal == 0; v++) {
-        r = timed_next_row(r, f.bytes, f.size, out_1, sizeof out_1, work_1, sizeof work_1);
+        int phased = rnd() % 4 != 0;
+        if (phased) r = timed_next_phased_row(r, f.bytes, f.size, out_1, sizeof out_1, phases_1, sizeof phases_1, work_1, sizeof work_1);
+        else r = timed_next_row(r, f.bytes, f.size, out_1, sizeof out_1, work_1, sizeof work_1);
         struct told told = plain_read(f.bytes, f.size, v, out_2, sizeof out_2, work_2, sizeof work_2);
+        if (phased) plain_read_phases(f.bytes, f.size, v, phases_2, sizeof phases_2, work_2, sizeof work_2);
         if (r.refusal != told.refusal || r.place != told.place || memcmp(out_1, out_2, sizeof out_1)) fail("row");
+        if (memcmp(phases_1, phases_2, sizeof phases_1)) fail("phases of a row");
         compared++;
     }
 }
@@ -54,6 +58,9 @@ static void one_file(struct file f, u8 *twin)
     reset();
     same("read", timed_read(f.bytes, f.size, variant, out_1, sizeof out_1, work_1, work_size),
          plain_read(f.bytes, f.size, variant, out_2, sizeof out_2, work_2, work_size));
+    reset();
+    same("phases", timed_read_phases(f.bytes, f.size, variant, out_1, sizeof out_1, work_1, work_size),
+         plain_read_phases(f.bytes, f.size, variant, out_2, sizeof out_2, work_2, work_size));
     all_rows(f);
     reset();
     for (usize i = 0; i < sizeof set; i++) set[i] = rnd();
@@ -83,12 +90,15 @@ static void one_write(usize n)
 int main(void)
 {
     static const usize samples[9] = {1, 3, 4, 65, 256, 257, 300, 1000, 3000};
-    for (int form = 0; form < 40; form++)
+    // first the forms of mode 0x10, then of mode 0x02, then of mode 0x10 with 8-bit types and phases
+    for (int form = 0; form < 56; form++)
         for (int k = 0; k < 9; k++) {
-            u8 mode = form < 32 ? 0x10 : 0x02, byte = form < 32 ? form % 8 | form / 8 << 6 : form % 4 << 6;
+            int phased = form >= 40;
+            u8 mode = form < 32 || phased ? 0x10 : 0x02, byte = form < 32 ? form % 8 | form / 8 << 6 : form % 4 << 6;
+            if (phased) byte = form % 4 | 4 | (form - 40) / 4 << 6;
             usize variants = 1 + rnd() % 40;
             if (form % 4 == 0 && mode == 0x10 && samples[k] > 300) continue;
-            struct file f = make_mix(samples[k], variants, byte, mode);
+            struct file f = make_mix(samples[k], variants, byte, mode, phased);
             u8 *twin = pages(f.size), *kept = pages(f.size);
             memcpy(kept, f.bytes, f.size);
             for (int round = 0; round < 60; round++) {

@@ -23,8 +23,8 @@ static void make(usize samples, const char *name)
 {
     static char path[4096], text[1 << 20];
     usize used;
-    struct bodies *b = make_bodies(samples, WHOLE);
-    struct file file = make_file(b, bodies_variants(b), 0x41);
+    struct bodies *b = make_bodies(samples, WHOLE, 0);
+    struct file file = make_file(b, b->variants, 0x41);
     snprintf(path, sizeof path, "%s.pgen", name);
     int to = creat(path, 0644);
     put(to, file.bytes, file.size);

@@ -55,9 +55,10 @@ usize plain_first_above_3(const u8 *row, usize n)
     return n;
 }
 
-static u8 amiss(u8 kind)
+// Kind 5, or a bit that is neither of the kind nor bit 4.
+static u8 amiss(u8 type)
 {
-    return (kind > 7) | (kind == 5);
+    return ((type & 0xe8) != 0) | ((type & 7) == 5);
 }
 
 int plain_types_amiss(const u8 *types, usize size, int half)

@@ -1,8 +1,9 @@
-// Files made for timing, in memory. Records of all kinds, drawn at random with a fixed seed:
+// Records made for timing, in memory, of all kinds, drawn at random with a fixed seed:
 //   45 in 100 list few samples against one category (kind 4 mostly, then 6, then 7),
 //   25 lean on the nearest record before them that does not (kind 2, a quarter of them kind 3),
 //   18 have a pair code, a bit for each sample and a short list (kind 1),
 //   12 have two bits for each sample (kind 0).
+// In a phased file three records in four have a phase track; in a quarter of these all calls are phased, in the others some seven in eight.
 // No list is longer than plink2 allows, N / 8 samples (N / 16 in kind 1), so that plink2 can read the same file.
 #include "make.h"
 #include "plain.h"
@@ -25,18 +26,6 @@ u64 rnd(void)
     seed ^= seed >> 7;
     seed ^= seed << 17;
     return seed;
-}
-
-struct bodies {
-    usize samples, variants;
-    u8 *bytes;
-    u32 *lengths;
-    u8 *kinds;
-};
-
-usize bodies_variants(const struct bodies *b)
-{
-    return b->variants;
 }
 
 static u8 *put_varint(u8 *p, usize x)
@@ -153,122 +142,80 @@ static u8 *put_body(u8 *p, usize n, u8 kind, const u8 *anchor)
     }
 }
 
-struct bodies *make_bodies(usize samples, usize bytes)
+// `count` bits in a row, the first of them `first`; one in eight of the others is clear if `most`, else one in two. Gives how many are set.
+static usize put_run(u8 *p, usize count, int first, int most)
 {
-    static u8 anchor[65536];
+    usize size = (count + 7) / 8;
+    for (usize i = 0; i < size; i++) p[i] = most ? rnd() | rnd() | rnd() : rnd() >> 20;
+    if (count % 8) p[size - 1] &= (1 << count % 8) - 1;
+    if (first) p[0] |= 1;
+    return plain_ones(p, size);
+}
+
+static u8 *put_phases(u8 *p, usize n, const u8 *row)
+{
+    usize h = plain_heterozygous(row, n), phased = h;
+    if (rnd() % 4 == 0) *p++ = 0;
+    else {
+        phased = put_run(p, h + 1, 1, 1) - 1;
+        p += (h + 8) / 8;
+    }
+    put_run(p, phased, 0, 0);
+    return p + (phased + 7) / 8;
+}
+
+u8 *put_record(u8 *p, usize n, u8 type, struct before *b)
+{
+    static u8 row[65536];
+    struct told told;
+    struct phase_track track;
+    u8 kind = type & 7;
+    int leans = kind == 2 || kind == 3;
+    if (leans && !b->read) {
+        plain_body(b->body, 0, b->size, n, b->type, READ, b->row, &track, &told);
+        b->read = 1;
+    }
+    u8 *end = put_body(p, n, kind, b->row);
+    if (type & 16) {
+        if (leans) memcpy(row, b->row, n);
+        plain_body(p, 0, end - p, n, kind, READ, row, &track, &told);
+        end = put_phases(end, n, row);
+    }
+    if (leans) return end;
+    b->body = p;
+    b->size = end - p;
+    b->type = type;
+    b->read = 0;
+    return end;
+}
+
+u8 pick_type(usize variant, int phased)
+{
+    u8 kind = pick_kind(variant);
+    return phased && rnd() % 4 ? kind | 16 : kind;
+}
+
+struct bodies *make_bodies(usize samples, usize bytes, int phased)
+{
+    static struct before before;
     struct bodies *b = pages(sizeof *b);
     b->samples = samples;
     b->bytes = pages(bytes + 65536);
     b->lengths = pages(16777216 * sizeof(u32));
-    b->kinds = pages(16777216);
-    u8 *p = b->bytes, *base = 0;
-    usize base_size = 0;
-    u8 base_kind = 0;
-    int read = 0;
-    struct told told;
-    while (p < b->bytes + bytes && b->variants < 16777216) {
-        u8 kind = pick_kind(b->variants);
-        if ((kind == 2 || kind == 3) && !read) {
-            plain_body(base, 0, base_size, samples, base_kind, 0, anchor, &told);
-            read = 1;
-        }
-        u8 *end = put_body(p, samples, kind, anchor);
-        b->kinds[b->variants] = kind;
+    b->types = pages(16777216);
+    for (u8 *p = b->bytes, *end; p < b->bytes + bytes && b->variants < 16777216; p = end) {
+        u8 type = pick_type(b->variants, phased);
+        end = put_record(p, samples, type, &before);
+        b->types[b->variants] = type;
         b->lengths[b->variants++] = end - p;
-        if (kind != 2 && kind != 3) {
-            base = p;
-            base_size = end - p;
-            base_kind = kind;
-            read = 0;
-        }
-        p = end;
     }
     return b;
 }
 
-static u8 *put_number(u8 *p, u64 x, usize width)
+void drop_bodies(struct bodies *b, usize bytes)
 {
-    for (usize i = 0; i < width; i++) p[i] = x >> 8 * i;
-    return p + width;
-}
-
-// The file of the first variants, in mode 0x10 with that form byte.
-struct file make_file(const struct bodies *b, usize variants, u8 form)
-{
-    usize half = form % 16 < 4, width = form % 4 + 1, blocks = (variants + 65535) / 65536, total = 0;
-    for (usize v = 0; v < variants; v++) total += b->lengths[v];
-    usize header = 12 + 8 * blocks;
-    for (usize k = 0; k < blocks; k++) {
-        usize n = variants - 65536 * k < 65536 ? variants - 65536 * k : 65536;
-        header += (half ? (n + 1) / 2 : n) + width * n + (form / 64 == 3 ? (n + 7) / 8 : 0);
-    }
-    struct file f = {pages(header + total), header + total, variants, b->samples};
-    u8 *p = f.bytes;
-    *p++ = 0x6c;
-    *p++ = 0x1b;
-    *p++ = 0x10;
-    p = put_number(p, variants, 4);
-    p = put_number(p, b->samples, 4);
-    *p++ = form;
-    u8 *offsets = p;
-    p += 8 * blocks;
-    usize at = header;
-    for (usize k = 0; k < blocks; k++) {
-        usize from = 65536 * k, n = variants - from < 65536 ? variants - from : 65536;
-        offsets = put_number(offsets, at, 8);
-        for (usize i = 0; i < n; i++) {
-            if (!half) p[i] = b->kinds[from + i];
-            else p[i / 2] |= b->kinds[from + i] << 4 * (i % 2);
-        }
-        p += half ? (n + 1) / 2 : n;
-        for (usize i = 0; i < n; i++) {
-            p = put_number(p, b->lengths[from + i], width);
-            at += b->lengths[from + i];
-        }
-        if (form / 64 == 3) p += (n + 7) / 8;
-    }
-    memcpy(p, b->bytes, total);
-    return f;
-}
-
-// A file for the header check alone: kinds drawn at random, lengths of 0 to 7 bytes, and as many bytes after the header, which it does not read.
-struct file make_header(usize variants, u8 form)
-{
-    static const u8 kinds[7] = {0, 1, 2, 3, 4, 6, 7};
-    struct bodies b = {1000, variants, pages(8 * variants), pages(variants * sizeof(u32)), pages(variants)};
-    for (usize v = 0; v < variants; v++) {
-        u64 r = rnd();
-        b.kinds[v] = v % 65536 ? kinds[r % 7] : 0;
-        b.lengths[v] = r >> 20 & 7;
-    }
-    struct file f = make_file(&b, variants, form);
-    munmap(b.bytes, 8 * variants + 4096);
-    munmap(b.lengths, variants * sizeof(u32) + 4096);
-    munmap(b.kinds, variants + 4096);
-    return f;
-}
-
-// A small file of any form or mode, for the comparison of replies.
-struct file make_mix(usize samples, usize variants, u8 form, u8 mode)
-{
-    struct bodies b = {samples, variants, pages(variants * (samples * 3 + 16)), pages(variants * sizeof(u32)), pages(variants)};
-    static u8 anchor[65536];
-    u8 *p = b.bytes;
-    struct told told;
-    for (usize v = 0; v < variants; v++) {
-        u8 kind = mode == 2 ? 0 : pick_kind(v), *end = put_body(p, samples, kind, anchor);
-        b.kinds[v] = kind;
-        b.lengths[v] = end - p;
-        if (kind != 2 && kind != 3) plain_body(p, 0, end - p, samples, kind, 0, anchor, &told);
-        p = end;
-    }
-    if (mode != 2) return make_file(&b, variants, form);
-    usize flags = form / 64 == 3 ? (variants + 7) / 8 : 0, total = p - b.bytes;
-    struct file f = {pages(12 + flags + total), 12 + flags + total, variants, samples};
-    memcpy(f.bytes, "\x6c\x1b\x02", 3);
-    put_number(f.bytes + 3, variants, 4);
-    put_number(f.bytes + 7, samples, 4);
-    f.bytes[11] = form & 0xc0;
-    memcpy(f.bytes + 12 + flags, b.bytes, total);
-    return f;
+    munmap(b->bytes, bytes + 65536 + 4096);
+    munmap(b->lengths, 16777216 * sizeof(u32) + 4096);
+    munmap(b->types, 16777216 + 4096);
+    munmap(b, sizeof *b + 4096);
 }

@@ -10,10 +10,22 @@ struct file { u8 *bytes; usize size, variants, samples; };
 
 void *pages(usize size);
 u64 rnd(void);
-struct bodies;
-struct bodies *make_bodies(usize samples, usize bytes);
-usize bodies_variants(const struct bodies *b);
+// Records one after another, with their lengths and types.
+struct bodies {
+    usize samples, variants;
+    u8 *bytes;
+    u32 *lengths;
+    u8 *types;
+};
+
+// What the next record needs of those before it: the last that leans on none, and its row if it is read.
+struct before { u8 *body, type; usize size; int read; u8 row[65536]; };
+
+u8 pick_type(usize variant, int phased);
+u8 *put_record(u8 *p, usize n, u8 type, struct before *before);
+struct bodies *make_bodies(usize samples, usize bytes, int phased);
+void drop_bodies(struct bodies *b, usize bytes);
 struct file make_file(const struct bodies *b, usize variants, u8 form);
 struct file make_header(usize variants, u8 form);
-struct file make_mix(usize samples, usize variants, u8 form, u8 mode);
+struct file make_mix(usize samples, usize variants, u8 form, u8 mode, int phased);
 #endif

@@ -6,12 +6,14 @@
 struct file_told timed_header_check(const u8 *file, usize size);
 struct file_told timed_check(const u8 *file, usize size, u8 *work, usize work_size);
 struct told timed_read(const u8 *file, usize size, usize variant, u8 *output, usize output_size, u8 *work, usize work_size);
+struct told timed_read_phases(const u8 *file, usize size, usize variant, u8 *output, usize output_size, u8 *work, usize work_size);
 struct told timed_lookup(const u8 *file, usize size, usize variant, usize sample, u8 *work, usize work_size);
 // The state of a walk through all rows, and the refusal and place of the call that gave it.
 struct rows { usize variants, samples, variant, start, anchor_place, place; u8 mode, form, anchor_refusal, refusal; };
 
 struct rows timed_start_rows(const u8 *file, usize size, const u8 *work, usize work_size);
 struct rows timed_next_row(struct rows rows, const u8 *file, usize size, u8 *output, usize output_size, u8 *work, usize work_size);
+struct rows timed_next_phased_row(struct rows r, const u8 *file, usize size, u8 *out, usize out_size, u8 *phases, usize phases_size, u8 *work, usize work_size);
 struct told timed_flip(u8 *file, usize size, const u8 *set, usize set_size, u8 *work, usize work_size);
 struct told timed_write_record(const u8 *categories, usize n, usize kind, usize code, const u8 *anchor, usize anchor_size, u8 *output, usize output_size);
 usize timed_unpack_categories(const u8 *s, usize size, usize n, u8 *row, usize row_size);

@@ -2,72 +2,14 @@
 //   whole headers   the header check, 1,000,000 and 16,777,216 variants, each form
 //   whole files     files of about 250 MB: check, rows, read, flip, write
 //   whole growth    the same over 1, 2, 4 and 8 times the size
-#include "timed.h"
-#include "make.h"
-#include "measure.h"
+#include "file.h"
 
-static struct file file, twin;
-static u8 row[65536], other[65536], work_1[65536], work_2[65536], *copied, *set;
-static usize variant, kind, code;
-static u64 sum_1, sum_2;
-static struct file_told check_1, check_2;
-static struct told told_1, told_2;
+static usize kind, code;
 
-static void same_told(const char *what)
-{
-    if (memcmp(&told_1, &told_2, sizeof told_1) || memcmp(row, other, sizeof row) || memcmp(work_1, work_2, sizeof work_1)) fail(what);
-}
-
-static void same_check(const char *what)
-{
-    if (memcmp(&check_1, &check_2, sizeof check_1) || memcmp(work_1, work_2, sizeof work_1) || check_1.refusal) fail(what);
-}
-
-static usize to_copy;
-
-static void copy(void *on) { memcpy(copied, file.bytes, to_copy); }
 static void header_ours(void *on) { check_1 = timed_header_check(file.bytes, file.size); }
 static void header_plain(void *on) { check_2 = plain_header_check(file.bytes, file.size); }
-static void check_ours(void *on) { check_1 = timed_check(file.bytes, file.size, work_1, sizeof work_1); }
-static void check_plain(void *on) { check_2 = plain_check(file.bytes, file.size, work_2, sizeof work_2); }
 static void read_ours(void *on) { told_1 = timed_read(file.bytes, file.size, variant, row, sizeof row, work_1, sizeof work_1); }
 static void read_plain(void *on) { told_2 = plain_read(file.bytes, file.size, variant, other, sizeof other, work_2, sizeof work_2); }
-static void flip_ours(void *on) { told_1 = timed_flip(file.bytes, file.size, set, (file.variants + 7) / 8, work_1, sizeof work_1); }
-static void flip_plain(void *on) { told_2 = plain_flip(twin.bytes, twin.size, set, (file.variants + 7) / 8, work_2, sizeof work_2); }
-
-static void rows_ours(void *on)
-{
-    struct rows r = timed_start_rows(file.bytes, file.size, work_1, sizeof work_1);
-    sum_1 = 0;
-    if (r.refusal) return;
-    for (usize v = 1; v <= file.variants; v++) {
-        r = timed_next_row(r, file.bytes, file.size, row, sizeof row, work_1, sizeof work_1);
-        if (r.refusal) return;
-        sum_1 += row[v % file.samples] + 4 * row[file.samples - 1];
-    }
-}
-
-static void rows_plain(void *on) { sum_2 = plain_rows(file.bytes, file.size, other, work_2); }
-
-static void line(const char *what, double bytes, double ours, double plain, double copy)
-{
-    printf("| %s | %.1f | %.2f | %.2f | %.2f | %.2f | %.2f |\n", what, bytes / 1e6, ours * 1e3, plain * 1e3, bytes / ours / 1e9, plain / ours, copy * 1e3);
-}
-
-static void head(const char *of)
-{
-    printf("\n| %s | MB | library ms | C ms | library GB/s | library / C | memcpy ms |\n|---|---|---|---|---|---|---|\n", of);
-}
-
-static void three(const char *what, double bytes, work *ours, work *plain, double seconds)
-{
-    work *works[] = {ours, plain, copy};
-    void *on[3] = {0};
-    double least[3];
-    to_copy = bytes;
-    take_turns(works, on, 3, 50, seconds, least);
-    line(what, bytes, least[0], least[1], least[2]);
-}
 
 static void headers(void)
 {
@@ -90,49 +32,6 @@ static void headers(void)
             munmap(file.bytes, whole + 4096);
             munmap(copied, size + 4096);
         }
-}
-
-static void take_file(const struct bodies *b, usize variants)
-{
-    file = make_file(b, variants, 0x41);
-    twin = file;
-    twin.bytes = pages(file.size);
-    memcpy(twin.bytes, file.bytes, file.size);
-    copied = pages(file.size);
-    set = pages(variants / 8 + 1);
-    for (usize v = 0; v < variants; v++)
-        if (rnd() % 3 == 0) set[v / 8] |= 1 << v % 8;
-    memset(row, 0, sizeof row);
-    memset(other, 0, sizeof other);
-    to_copy = file.size;
-    copy(0);
-}
-
-static void drop_file(void)
-{
-    munmap(file.bytes, file.size + 4096);
-    munmap(twin.bytes, file.size + 4096);
-    munmap(copied, file.size + 4096);
-    munmap(set, file.variants / 8 + 1 + 4096);
-}
-
-static void check_both(void)
-{
-    check_ours(0), check_plain(0);
-    same_check("whole-file check");
-}
-
-static void flip_both(void)
-{
-    flip_ours(0), flip_plain(0);
-    same_told("flip");
-    if (told_1.refusal || memcmp(file.bytes, twin.bytes, file.size)) fail("flip");
-}
-
-static void rows_both(void)
-{
-    rows_ours(0), rows_plain(0);
-    if (sum_1 != sum_2 || sum_1 == 0 || memcmp(row, other, sizeof row)) fail("rows");
 }
 
 // The first forty variants, and some all over the file, read by both.
@@ -190,8 +89,8 @@ static void files(void)
     static const usize samples[2] = {2000, 20000};
     char what[80];
     for (int k = 0; k < 2; k++) {
-        struct bodies *b = make_bodies(samples[k], WHOLE);
-        take_file(b, bodies_variants(b));
+        struct bodies *b = make_bodies(samples[k], WHOLE, 0);
+        take_file(b, b->variants, 0x41);
         snprintf(what, sizeof what, "N = %lu, M = %lu", file.samples, file.variants);
         head(what);
         header_ours(0), header_plain(0);
@@ -221,9 +120,9 @@ static void growth(void)
     static const usize samples[2] = {2000, 20000};
     printf("\n| Growth: ns per byte | MB | check | check in C | rows | rows in C | flip | flip in C |\n|---|---|---|---|---|---|---|---|\n");
     for (int k = 0; k < 2; k++) {
-        struct bodies *b = make_bodies(samples[k], WHOLE);
+        struct bodies *b = make_bodies(samples[k], WHOLE, 0);
         for (usize part = 8; part; part /= 2) {
-            take_file(b, bodies_variants(b) / part);
+            take_file(b, b->variants / part, 0x41);
             check_both(), flip_both(), rows_both();
             work *works[] = {check_ours, check_plain, rows_ours, rows_plain, flip_ours, flip_plain};
             void *on[6] = {0};

@@ -1,7 +1,7 @@
 """Compares the built programs with the independent program.
 
-    python3 compare.py                 the committed cases, the real files, the listing, input that ends badly, document 01's examples, fresh cases from new
-                                       seeds for a minute
+    python3 compare.py                 the committed cases, the real files, the listing, input that ends badly, document 01's examples, examples of phases,
+                                       fresh cases from new seeds for a minute
     python3 compare.py --seed S        the same with the fresh cases of seed S alone, to run a failure again
     python3 compare.py --minutes N     fresh cases for about N minutes, seed after seed
     python3 compare.py --write         compares nothing: writes the committed cases anew
@@ -21,18 +21,22 @@ from pathlib import Path
 import pgen_reference as reference
 from listing_cases import check_listings, check_long_listings, check_pieces
 from pgen_byte_cases import byte_cases, table
-from pgen_cases import HEADER, READ, ROWS, Case
-from pgen_limit_cases import limit_cases, second_block_types
+from pgen_cases import HEADER, PHASES, READ, ROWS, Case
+from pgen_limit_cases import limit_cases, second_block_phased_types, second_block_types
 from pgen_parts import FILE_A
+from pgen_phase_bytes import phase_sweeps
+from pgen_phase_cases import phase_limits
 from pgen_row_cases import GREATEST_STEPS, limit_walks
 from pgen_row_damage import row_damage_cases
-from probe_cases import BAD_ENDS, all_cases, fresh_cases, input_bytes, line_of, reply_to
+from phase_laws import check_phase_examples, check_phase_laws
+from probe_cases import BAD_ENDS, all_cases, cases_of_phases, fresh_cases, input_bytes, line_of, reply_to
 from program_laws import check_examples, check_flips, check_rows, row_parts
 
 HERE = Path(__file__).resolve().parent
 ROOT = HERE.parent
 COMMITTED = {"seed": 1, "count": 2500, "rows": 250}
-FRESH_CASES = 1500
+COMMITTED_PHASES = {"seed": 1, "count": 584}
+FRESH_CASES = 2000
 PAUSE = 0.005  # seconds between two pieces of an input
 
 
@@ -76,8 +80,10 @@ class Tally:
 
 def made():
     """The committed cases, with their lines, and the table of what every value gets: under each file's name what must stand in it."""
-    data, want = joined(chain(all_cases(**COMMITTED), byte_cases(), row_damage_cases()))
-    return {"crates/probe/stdin": data, "crates/probe/stdout": want, "tests/every_value.txt": table(reply_to).encode()}
+    of_phases = chain(cases_of_phases(**COMMITTED_PHASES), byte_cases(phase_sweeps))
+    data, want = joined(chain(all_cases(**COMMITTED), byte_cases(), row_damage_cases(), of_phases))
+    every_value = table(reply_to) + table(reply_to, phase_sweeps)
+    return {"crates/probe/stdin": data, "crates/probe/stdout": want, "tests/every_value.txt": every_value.encode()}
 
 
 def committed(tally):
@@ -86,22 +92,39 @@ def committed(tally):
         tally.same(name, (ROOT / name).read_bytes(), want)
 
 
+def real_readings(tally, path, call, rows):
+    """Each variant of a file made by plink2, read alone by a call, is its row."""
+    file = path.read_bytes()
+    samples = int.from_bytes(file[7:11], "little")
+    data = b"".join(input_bytes(Case(call, v, 0, file, b"", samples, samples)) for v in range(len(rows)))
+    want = "".join(f"0 0 o {bytes(map(int, row)).hex()} w {bytes(samples).hex()}\n" for row in rows).encode()
+    tally.same(f"call {call} on real/{path.name}", run("probe", data), want, len(rows))
+
+
 def real_file(tally, path):
-    """A file made by plink2 reads as plink2 itself exported it."""
+    """A file made by plink2: its categories, each alone and in a walk, are those that plink2 exported; and its listing."""
     file = path.read_bytes()
     samples = int.from_bytes(file[7:11], "little")
     rows = path.with_suffix(".categories").read_text().split()
-    data = b"".join(input_bytes(Case(READ, v, 0, file, b"", samples, samples)) for v in range(len(rows)))
-    want = "".join(f"0 0 o {bytes(map(int, row)).hex()} w {bytes(samples).hex()}\n" for row in rows).encode()
-    tally.same(f"real/{path.name}", run("probe", data), want, len(rows))
+    real_readings(tally, path, READ, rows)
     walked = [bytes(map(int, row)) for row in rows[:GREATEST_STEPS]]
     line = run("probe", input_bytes(Case(ROWS, len(walked), 0, file, b"", samples, samples)))
     tally.same(f"rows of real/{path.name}", line.partition(b" w ")[0], row_parts((0, 0, row) for row in walked).encode(), len(walked))
     tally.same(f"listing of real/{path.name}", listed(file), reference.listing(file).encode())
 
 
+def real_phases(tally, path):
+    """Its phases are those that plink2 exported; none where it exported none; or where document 02 reads others those, worked out by hand."""
+    told = [path.with_suffix(ending) for ending in (".phases_read", ".phases") if path.with_suffix(ending).exists()]
+    if told:
+        rows = told[0].read_text().split()
+    else:
+        rows = ["0" * len(row) for row in path.with_suffix(".categories").read_text().split()]
+    real_readings(tally, path, PHASES, rows)
+
+
 def real_refusal(tally, path):
-    """A file made by plink2 that document 01 refuses, with the number and place worked out by hand."""
+    """A file made by plink2 that documents 01 and 02 refuse, with the number and place worked out by hand."""
     refusal, file = path.with_suffix(".refused").read_text().strip(), path.read_bytes()
     for what in (f"refused {refusal}\n", reference.listing(file)):
         tally.same(f"listing of real/{path.name}", listed(file), what.encode())
@@ -110,7 +133,8 @@ def real_refusal(tally, path):
 def real_files(tally):
     """All files made by plink2."""
     for path in sorted((HERE / "real").glob("*.pgen")):
-        (real_refusal if path.with_suffix(".refused").exists() else real_file)(tally, path)
+        for check in (real_refusal,) if path.with_suffix(".refused").exists() else (real_file, real_phases):
+            check(tally, path)
 
 
 def listed(file):
@@ -152,7 +176,7 @@ def bad_ends(tally):
 def fresh_limits(tally, seed):
     """Document 01's "Tested only" cases, the limits of rows and long listings, with other files for each seed: they are large, so a run makes them once."""
     rng = random.Random(seed)
-    cases = list(chain(limit_cases(rng), limit_walks(rng), second_block_types()))
+    cases = list(chain(limit_cases(rng), limit_walks(rng), second_block_types(), second_block_phased_types(), phase_limits(rng)))
     data, want = joined(cases)
     tally.same(f"tested only, seed {seed}", run("probe", data), want, len(cases))
     check_long_listings(tally, listed, seed)
@@ -164,6 +188,7 @@ def fresh(tally, seed):
     tally.same(f"fresh cases of seed {seed}", run("probe", data), want, FRESH_CASES)
     check_flips(tally, run, seed)
     check_rows(tally, run, seed)
+    check_phase_laws(tally, run, seed)
     check_listings(tally, listed, seed)
 
 
@@ -189,6 +214,7 @@ def main():
     listings(tally)
     bad_ends(tally)
     check_examples(tally, run)
+    check_phase_examples(tally, run)
     end = time.monotonic() + 60 * words.minutes
     first = seed = time.time_ns() % 10**9 if words.seed is None else words.seed
     print(f"fresh cases from seed {first} on", flush=True)

@@ -8,6 +8,7 @@ import random
 from pgen_generate import ALL_KINDS, PLAIN_KINDS, make_file
 from pgen_header import GREATEST_N
 from pgen_parts import join_file
+from pgen_phase_generate import with_tracks
 from pgen_reference import GREATEST_LISTING, listing
 from scale_files import MANY_VARIANTS_EVERY, chosen
 
@@ -17,26 +18,27 @@ PIECE = 65536
 LENGTHS = [times * PIECE + by for times in (1, 2, 3) for by in (-1, 0, 1)] + [4 * PIECE, 1000003]
 
 
-def sizes_for(length):
-    """Each M up to 3,000, and N, whose listing has so many characters."""
+def sizes_for(length, type_digits=1):
+    """Each M up to 3,000, and N, whose listing has so many characters where each type is printed with so many digits."""
     numbers = 0
     for M in range(1, 3001):
         numbers += len(str(M - 1))
-        rest = length - numbers - 4 * M - len(f"{M} \n")
+        rest = length - numbers - (3 + type_digits) * M - len(f"{M} \n")
         for digits in range(1, 6):
             N, over = divmod(rest - digits, M)
             if over == 0 and 1 <= N <= GREATEST_N and len(str(N)) == digits:
                 yield M, N
 
 
-def file_for(rng, length):
-    """A valid file that can be listed, whose listing has so many characters."""
+def file_for(rng, length, phased):
+    """A valid file that can be listed, whose listing has so many characters; all of its records have phase tracks, or none."""
     while True:
-        M, N = rng.choice(list(sizes_for(length)))
+        M, N = rng.choice(list(sizes_for(length, 2 if phased else 1)))
         kinds = [rng.choice(PLAIN_KINDS)] + [rng.choice(ALL_KINDS) for _ in range(M - 1)]
         if length > 2 * PIECE:
             kinds = [4 if kind < 2 else kind for kind in kinds]
-        file, _ = join_file(make_file(rng, N, kinds, [rng.randint(0, min(N, 9)) for _ in kinds]))
+        parts = make_file(rng, N, kinds, [rng.randint(0, min(N, 9)) for _ in kinds])
+        file, _ = join_file(with_tracks(rng, parts, 1) if phased else parts)
         if len(file) <= GREATEST_LISTING:
             return file
 
@@ -56,8 +58,8 @@ def file_of_size(rng, size):
 def check_long_listings(tally, program, seed):
     """Long listings to their last character, and of the same files with a fault at the end; the greatest input and one byte more."""
     rng = random.Random(f"long listings {seed}")
-    for length in LENGTHS:
-        file = file_for(rng, length)
+    for turn, length in enumerate(LENGTHS):
+        file = file_for(rng, length, (seed + turn) % 3 == 0)
         want = listing(file)
         assert len(want) == length, (length, len(want))
         tally.same(f"listing of {length} characters, seed {seed}", program(file), want.encode())

@@ -119,9 +119,9 @@ def sweeps():
     yield from arguments()
 
 
-def byte_cases():
+def byte_cases(swept=sweeps):
     """All cases."""
-    for sweep in sweeps():
+    for sweep in swept():
         yield from (case for _, case in sweep.alone + sweep.behind)
 
 
@@ -151,10 +151,10 @@ def replies_of(cases, reply_to):
     return same
 
 
-def table(reply_to):
+def table(reply_to, swept=sweeps):
     """What each value gets, as text."""
     lines = []
-    for sweep in sweeps():
+    for sweep in swept():
         for cases, setting in ((sweep.alone, ""), (sweep.behind, ", with a second fault behind")):
             lines += [sweep.name + setting] if cases else []
             for replies, values in replies_of(cases, reply_to).items():

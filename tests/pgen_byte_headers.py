@@ -119,14 +119,14 @@ def how_many(value, right, few):
     return 1 if value not in right else few if len(right) > 8 else 99
 
 
-def file_sweep(name, number, right, file_of):
+def file_sweep(name, number, right, file_of, values=ALL_BYTES, calls=tuple(CALLS_ON_FILES)):
     """Every value in a file, in one call after another: `file_of` gives a file with it and the file's marks; a value that is not right gets `number`."""
     alone, behind = [], []
-    for value in ALL_BYTES:
-        for call in in_turn(CALLS_ON_FILES, value, how_many(value, right, 2)):
+    for value in values:
+        for call in in_turn(calls, value, how_many(value, right, 2)):
             alone.append((value, on_file(call, file_of(value)[0])))
         for turn, (fault, file) in enumerate(in_turn(list(files_behind(number, file_of, value)), value, how_many(value, right, 1))):
-            call = WHOLE if fault is last_record_wrong else CALLS_ON_FILES[(value + turn + 3) % len(CALLS_ON_FILES)]
+            call = WHOLE if fault is last_record_wrong else calls[(value + turn + 3) % len(calls)]
             behind.append((value, on_file(call, file)))
     return Sweep(name, alone, behind)
 
@@ -188,10 +188,10 @@ def wide_types(place):
     return FIRST_KINDS if place == 0 else LATER_KINDS, file_of
 
 
-def steps_sweep(name, file_of):
+def steps_sweep(name, file_of, values=ALL_BYTES):
     """Steps on a file with each value after a start on a right one, so that a step meets it and no header check."""
     start = bytes(file_of(0)[0])
-    return Sweep(f"{name}, in steps", [(value, Case(ROWS, 5, first=bytes(file_of(value)[0]), second=start, output=6, work=7)) for value in ALL_BYTES], [])
+    return Sweep(f"{name}, in steps", [(value, Case(ROWS, 5, first=bytes(file_of(value)[0]), second=start, output=6, work=7)) for value in values], [])
 
 
 def types():

@@ -3,21 +3,25 @@
 from typing import NamedTuple
 
 from pgen_generate import choose_categories, choose_count, choose_samples, random_file, tiny_file
+from pgen_header import leans
 from pgen_header_damage import HEADER_FAULTS, faulted
 from pgen_parts import join_file
 from pgen_record import PAIRS, exchange
 from pgen_record_damage import RECORD_FAULTS
 from pgen_reference import write_record
 
-HEADER, WHOLE_FILE, READ, LOOKUP, VIEW, WRITE, FLIP = range(1, 8)
+HEADER, WHOLE_FILE, READ, LOOKUP, VIEW, WRITE, FLIP, PHASES, WRITE_PHASED = range(1, 10)
 ROWS = 23
 FILE_CALLS = [HEADER, WHOLE_FILE, READ, LOOKUP, VIEW, FLIP]
+READS = (READ, PHASES)
+ON_ONE_VARIANT = (*READS, LOOKUP, VIEW)
+WITH_WORK_AREA = (WHOLE_FILE, *READS, LOOKUP, FLIP)
 GREATEST_OUTPUT = 131072
 WRITER_N = [0, 1, 1, 2, 3, 4, 5, 7, 8, 9, 63, 64, 65, 127, 128, 129, 255, 256, 257, 300]
 
 
 class Case(NamedTuple):
-    """One call: its numbers, its two byte strings, and the sizes of what it is lent."""
+    """One call: its numbers, its byte strings, and the sizes of what it is lent; only a writer of phases has a third string."""
 
     call: int
     x: int = 0
@@ -26,6 +30,7 @@ class Case(NamedTuple):
     second: bytes = b""
     output: int = 0
     work: int = 0
+    third: bytes = b""
 
 
 class Subject(NamedTuple):
@@ -58,9 +63,9 @@ def record_fault_subject(rng, fault):
     return subject_of(parts, variant)
 
 
-def header_fault_subject(rng, fault):
+def header_fault_subject(rng, fault, make=random_file):
     """A file with a fault in its header, or anywhere."""
-    parts, _, file = faulted(rng, fault)
+    parts, _, file = faulted(rng, fault, make)
     return Subject(file, parts.M(), parts.N, rng.randrange(parts.M()), parts.types)
 
 
@@ -77,7 +82,7 @@ def choose_variant(rng, subject):
     roll = rng.random()
     leaning = []
     for later in range(subject.variant + 1, subject.M):
-        if subject.types[later] not in (2, 3):
+        if not leans(subject.types[later]):
             break
         leaning.append(later)
     if leaning and roll < 0.25:
@@ -105,13 +110,13 @@ def choose_set(rng, M):
 def file_case(rng, call, subject):
     """A call on a file with arguments that are in range."""
     case = Case(call, first=subject.file)
-    if call in (READ, LOOKUP, VIEW):
+    if call in ON_ONE_VARIANT:
         case = case._replace(x=choose_variant(rng, subject))
     if call == LOOKUP:
         case = case._replace(y=rng.choice([0, subject.N - 1, rng.randrange(subject.N)]))
-    if call == READ:
+    if call in READS:
         case = case._replace(output=lent_size(rng, subject.N))
-    if call in (WHOLE_FILE, READ, LOOKUP, FLIP):
+    if call in WITH_WORK_AREA:
         case = case._replace(work=lent_size(rng, subject.N))
     if call == FLIP:
         case = case._replace(second=choose_set(rng, subject.M))
@@ -119,19 +124,19 @@ def file_case(rng, call, subject):
 
 
 def work_short(rng, case, subject):
-    if case.call in (WHOLE_FILE, READ, LOOKUP, FLIP):
+    if case.call in WITH_WORK_AREA:
         return case._replace(work=short_size(rng, subject.N))
     return case
 
 
 def output_short(rng, case, subject):
-    if case.call == READ:
+    if case.call in READS:
         return case._replace(output=short_size(rng, subject.N))
     return case
 
 
 def variant_above(rng, case, subject):
-    if case.call in (READ, LOOKUP, VIEW):
+    if case.call in ON_ONE_VARIANT:
         return case._replace(x=far_above(rng, subject.M))
     return case
 

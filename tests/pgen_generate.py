@@ -4,7 +4,8 @@ from itertools import accumulate
 
 import pgen_header
 from pgen_parts import FileParts, ListParts, RecordParts
-from pgen_record import BASES, PAIRS, exchange, pack
+from pgen_packed import pack
+from pgen_record import BASES, PAIRS, exchange
 
 SMALL_N = [1, 2, 3, 4, 5, 6, 7, 8, 9, 12, 16, 17, 20]
 MIDDLE_N = [63, 64, 65, 66, 100, 127, 128, 129, 200, 255, 256, 257, 258, 300]

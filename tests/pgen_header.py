@@ -12,6 +12,8 @@ GREATEST_N = 65536
 PLAIN_MODE = 0x02
 BLOCK_MODE = 0x10
 LEANING_KINDS = (2, 3)
+KIND_BITS = 7  # of a type
+PHASED = 16  # a type's bit 4: a phase track follows the main track
 
 
 class Refused(Exception):
@@ -45,10 +47,15 @@ def length_width(form):
     return form % 4 + 1
 
 
+def leans(its_type):
+    """Whether a record of this type leans on an anchor."""
+    return its_type & KIND_BITS in LEANING_KINDS
+
+
 def type_allowed(its_type, variant):
     """Whether a variant may have this type."""
-    leaning_first = variant % BLOCK_SIZE == 0 and its_type in LEANING_KINDS
-    return its_type <= 7 and its_type != 5 and not leaning_first
+    leaning_first = variant % BLOCK_SIZE == 0 and leans(its_type)
+    return its_type & ~PHASED <= KIND_BITS and its_type & KIND_BITS != 5 and not leaning_first
 
 
 class Block:
@@ -173,7 +180,7 @@ class Header:
     def anchor(self, variant):
         """The nearest earlier variant of the same block that leans on nothing."""
         earlier = variant - 1
-        while self.types[earlier] in LEANING_KINDS:
+        while leans(self.types[earlier]):
             earlier -= 1
         assert earlier // BLOCK_SIZE == variant // BLOCK_SIZE
         return earlier

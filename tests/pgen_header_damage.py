@@ -177,10 +177,10 @@ def several_header_faults(rng, file, marks):
         fault(rng, file, marks)
 
 
-def faulted(rng, fault):
+def faulted(rng, fault, make=random_file):
     """A valid file in parts, its bytes, and its bytes with this fault."""
     while True:
-        parts = random_file(rng, N=rng.choice([1, 3, 4, 5, 9, 64, 255, 257]))
+        parts = make(rng, N=rng.choice([1, 3, 4, 5, 9, 64, 255, 257]))
         joined, marks = join_file(parts)
         file = bytearray(joined)
         if fault(rng, file, marks) is not False:

@@ -5,7 +5,7 @@ from pgen_cases import (FLIP, HEADER, LOOKUP, READ, VIEW, WHOLE_FILE, WRITE, Cas
 from pgen_generate import focused_file, make_file, tiny_file
 from pgen_header_damage import put
 from pgen_parts import FileParts, ListParts, RecordParts, join_file
-from pgen_record import pack
+from pgen_packed import pack
 
 BLOCK = 65536
 
@@ -116,6 +116,16 @@ def second_block_types():
     for byte in [*range(16), *(high << 4 for high in range(16))]:
         file[marks.types[BLOCK]] = byte
         yield Case(HEADER, first=bytes(file))
+
+
+def second_block_phased_types():
+    """Types of 8 bits with bit 4 at variants 65,536 and 65,537, likewise."""
+    joined, marks = join_file(FileParts(0x10, 4, 1, [RecordParts(4, None, b"") for _ in range(BLOCK + 2)], []))
+    for variant in (BLOCK, BLOCK + 1):
+        for its_type in (16, 18, 19, 21, 23, 24, 48):
+            file = bytearray(joined)
+            file[marks.types[variant]] = its_type
+            yield Case(HEADER, first=bytes(file))
 
 
 def limit_cases(rng):

@@ -1,7 +1,8 @@
 """The parts of records and files, kept apart so that one can be changed before all are joined."""
 
 import pgen_header
-from pgen_record import pack, varint
+from pgen_packed import pack
+from pgen_record import varint
 
 FILE_A = bytes.fromhex("6c1b1003000000050000004019000000000000002004020403e40002010603010203")  # document 01's small file
 
@@ -34,14 +35,41 @@ class ListParts:
         return self.count + heads + bytes(self.size_bytes) + bytes(values) + steps
 
 
+class TrackParts:
+    """A phase track in parts, from whether presence bits are stored and the phase of each heterozygous call."""
+
+    def __init__(self, stored, phases):
+        self.stored = stored
+        self.phases = bytes(phases)
+        self.first = bytearray(pack([1, *(int(phase > 0) for phase in phases)] if stored else [0], 1))
+        self.bits = bytearray(pack([phase - 1 for phase in phases if phase], 1))
+
+    def calls(self):
+        """H."""
+        return len(self.phases)
+
+    def phased_calls(self):
+        """P."""
+        return len(self.phases) - self.phases.count(0)
+
+    def first_used(self):
+        """The bits that are used in the first part."""
+        return 1 + self.calls() if self.stored else 1
+
+    def join(self):
+        """The bytes of the track."""
+        return bytes(self.first + self.bits)
+
+
 class RecordParts:
-    """A record in parts: what stands before the list, the list, what stands after it."""
+    """A record in parts: what stands before the list, the list, the phase track, what stands after it."""
 
     def __init__(self, kind, categories, front=b"", its_list=None):
         self.kind = kind
         self.categories = categories
         self.front = bytearray(front)
         self.list = its_list
+        self.track = None
         self.tail = b""
         self.whole = None
 
@@ -49,7 +77,20 @@ class RecordParts:
         """The bytes of the record (`whole`, where it is set, stands for all parts)."""
         if self.whole is not None:
             return self.whole
-        return bytes(self.front) + (self.list.join() if self.list else b"") + self.tail
+        return self.main_track() + (self.track.join() if self.track else b"") + self.tail
+
+    def main_track(self):
+        """The bytes of its main track."""
+        return bytes(self.front) + (self.list.join() if self.list else b"")
+
+    def phases(self):
+        """The reading of phases."""
+        of_calls = iter(self.track.phases if self.track else b"")
+        return bytes(next(of_calls, 0) if category == 1 else 0 for category in self.categories)
+
+    def type(self):
+        """The record's type."""
+        return self.kind | (pgen_header.PHASED if self.track else 0)
 
 
 class FileParts:
@@ -60,7 +101,7 @@ class FileParts:
         self.form = form
         self.N = N
         self.records = records
-        self.types = [record.kind for record in records]
+        self.types = [record.type() for record in records]
         self.flags = flags
 
     def M(self):

@@ -1,8 +1,10 @@
 """One record of a PGEN file: reading it (refusals 12 to 18) and forming its bytes."""
 
-from typing import NamedTuple
+from typing import NamedTuple, Optional
 
-from pgen_header import Refused, up
+from pgen_header import KIND_BITS, PHASED, Refused, up
+from pgen_packed import pack, read_array
+from pgen_phase import Track, form_track, heterozygous, read_track, spread
 
 PAIRS = {1: (0, 1), 2: (0, 2), 3: (0, 3), 5: (1, 2), 6: (1, 3), 9: (2, 3)}
 BASES = {4: 0, 6: 2, 7: 3}
@@ -11,12 +13,17 @@ GROUP = 64
 
 
 class Record(NamedTuple):
-    """What a record holds: the pair code and bits are of kind 1 only."""
+    """What a record holds: the pair code and bits are of kind 1 only, the phase track of types with bit 4."""
 
     categories: bytes
     code: int
     bits: tuple
     listed: dict
+    track: Optional[Track] = None
+
+    def phases(self):
+        """The reading of phases."""
+        return spread(self.categories, self.track)
 
 
 def exchange(categories):
@@ -24,36 +31,9 @@ def exchange(categories):
     return bytes(categories).translate(EXCHANGED)
 
 
-def unpack(data, width, count):
-    """The first elements of a packed array, lowest in the lowest bits."""
-    per_byte = 8 // width
-    mask = (1 << width) - 1
-    return [data[i // per_byte] >> (i % per_byte * width) & mask for i in range(count)]
-
-
-def pack(elements, width):
-    """A packed array with its unused bits zero."""
-    per_byte = 8 // width
-    data = bytearray(up(len(elements), per_byte))
-    for i, element in enumerate(elements):
-        data[i // per_byte] |= element << (i % per_byte * width)
-    return bytes(data)
-
-
 def number_width(N):
     """The bytes of a sample number in a list."""
     return 1 if N <= 256 else 2
-
-
-def read_array(file, place, end, width, count):
-    """A packed array: it must fit (12), its unused bits are zero (18)."""
-    after = place + up(count * width, 8)
-    if after > end:
-        raise Refused(12, end)
-    used = count * width % 8
-    if used and file[after - 1] >> used:
-        raise Refused(18, after - 1)
-    return unpack(file[place:after], width, count), after
 
 
 def read_varint(file, place, end):
@@ -131,18 +111,25 @@ def read_pair_record(file, place, end, N):
     return Record(categories, code, tuple(bits), listed), place
 
 
-def read_record(file, start, end, kind, N, anchor):
-    """The record that stands from start to end; refusals 12 to 18."""
+def read_main_track(file, place, end, kind, N, anchor):
+    """The main track of a record, and the place after it."""
     if kind == 0:
-        categories, place = read_array(file, start, end, 2, N)
-        record = Record(bytes(categories), 0, (), {})
-    elif kind == 1:
-        record, place = read_pair_record(file, start, end, N)
-    else:
-        under = bytes([BASES[kind]]) * N if kind in BASES else anchor
-        listed, place = read_list(file, start, end, N, lambda sample: (under[sample],))
-        categories = patched(under, listed)
-        record = Record(exchange(categories) if kind == 3 else categories, 0, (), listed)
+        categories, place = read_array(file, place, end, 2, N)
+        return Record(bytes(categories), 0, (), {}), place
+    if kind == 1:
+        return read_pair_record(file, place, end, N)
+    under = bytes([BASES[kind]]) * N if kind in BASES else anchor
+    listed, place = read_list(file, place, end, N, lambda sample: (under[sample],))
+    categories = patched(under, listed)
+    return Record(exchange(categories) if kind == 3 else categories, 0, (), listed), place
+
+
+def read_record(file, start, end, its_type, N, anchor):
+    """The record that stands from start to end; refusals 12 to 18."""
+    record, place = read_main_track(file, start, end, its_type & KIND_BITS, N, anchor)
+    if its_type & PHASED:
+        track, place = read_track(file, place, end, heterozygous(record.categories))
+        record = record._replace(track=track)
     if place < end:
         raise Refused(13, place)
     return record
@@ -174,8 +161,13 @@ def form_list(entries, N):
     return varint(len(entries)) + heads + sizes + values + b"".join(bodies)
 
 
-def form_record(categories, kind, code, anchor, listed_bits):
+def form_record(categories, kind, code, anchor, listed_bits, track=None):
     """The bytes of a record; listed_bits are kind 1's bits of listed samples (else 0)."""
+    return form_main_track(categories, kind, code, anchor, listed_bits) + (form_track(track) if track else b"")
+
+
+def form_main_track(categories, kind, code, anchor, listed_bits):
+    """The bytes of its main track."""
     N = len(categories)
     if kind == 0:
         return pack(categories, 2)

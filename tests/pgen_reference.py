@@ -1,15 +1,17 @@
-"""The public calls and the listing program as pure functions, from document 01 alone.
+"""The public calls and the listing program as pure functions, from documents 01 and 02 (Ask 1) alone.
 
 Every call gives its reply (refusal, place, results) and then the later content of
 every buffer it was lent, the file and the flip set excepted where they never change:
 
-    header_check      (refusal, place, mode, M, N, form)
-    whole_file_check  (refusal, place, mode, M, N, form, work)
-    read              (refusal, place, output, work)
-    lookup            (refusal, place, category, work)
-    view              (refusal, place, part)
-    write_record      (refusal, place, count, output)
-    flip              (refusal, place, file, work)
+    header_check         (refusal, place, mode, M, N, form)
+    whole_file_check     (refusal, place, mode, M, N, form, work)
+    read                 (refusal, place, output, work)
+    read_phases          (refusal, place, output, work)
+    lookup               (refusal, place, category, work)
+    view                 (refusal, place, part)
+    write_record         (refusal, place, count, output)
+    write_phased_record  (refusal, place, count, output)
+    flip                 (refusal, place, file, work)
 
 Going through a file row by row is in pgen_rows. Run as a program, this one lists the
 file on standard input. The block size is pgen_header.BLOCK_SIZE.
@@ -17,7 +19,8 @@ file on standard input. The block size is pgen_header.BLOCK_SIZE.
 
 import sys
 
-from pgen_header import GREATEST_N, LEANING_KINDS, Refused, read_header, up
+from pgen_header import GREATEST_N, KIND_BITS, LEANING_KINDS, Refused, leans, read_header, up
+from pgen_phase import HETEROZYGOUS, SWAPPED, flipped_track, written_track
 from pgen_record import BASES, EXCHANGED, PAIRS, exchange, form_record, read_record
 
 GREATEST_LISTING = 65536
@@ -49,23 +52,23 @@ def read_all(file, header):
     """All records in variant order."""
     records, anchor = [], None
     for variant in range(header.M):
-        kind = header.types[variant]
+        its_type = header.types[variant]
         start, end = header.record(variant)
-        record = read_record(file, start, end, kind, header.N, anchor)
-        if kind not in LEANING_KINDS:
+        record = read_record(file, start, end, its_type, header.N, anchor)
+        if not leans(its_type):
             anchor = record.categories
         records.append(record)
     return records
 
 
 def read_one(file, header, variant):
-    """The categories of one variant, its anchor checked before it."""
-    kind = header.types[variant]
+    """The record of one variant, its anchor checked before it."""
+    its_type = header.types[variant]
     anchor = None
-    if kind in LEANING_KINDS:
-        anchor = read_one(file, header, header.anchor(variant))
+    if leans(its_type):
+        anchor = read_one(file, header, header.anchor(variant)).categories
     start, end = header.record(variant)
-    return read_record(file, start, end, kind, header.N, anchor).categories
+    return read_record(file, start, end, its_type, header.N, anchor)
 
 
 def header_check(file):
@@ -88,16 +91,26 @@ def whole_file_check(file, work):
     return accepted_reply(header) + (later,)
 
 
-def read(file, variant, output, work):
-    """Read one variant into the output's first N bytes."""
+def fill(file, variant, output, work, reading):
+    """Fill the output's first N bytes with a reading of one variant's record."""
     later = work
     try:
         header = header_for(file, [output, work], variant)
         later = cleared(work, header.N)
-        categories = read_one(file, header, variant)
+        record = read_one(file, header, variant)
     except Refused as refused:
         return refused.number, refused.place, output, later
-    return 0, 0, categories + output[header.N:], later
+    return 0, 0, reading(record) + output[header.N:], later
+
+
+def read(file, variant, output, work):
+    """Read the categories of one variant."""
+    return fill(file, variant, output, work, lambda record: record.categories)
+
+
+def read_phases(file, variant, output, work):
+    """Read the phases of one variant: 0 for all samples where it has no phase track."""
+    return fill(file, variant, output, work, lambda record: record.phases())
 
 
 def lookup(file, variant, sample, work):
@@ -106,10 +119,10 @@ def lookup(file, variant, sample, work):
     try:
         header = header_for(file, [work], variant, sample)
         later = cleared(work, header.N)
-        categories = read_one(file, header, variant)
+        record = read_one(file, header, variant)
     except Refused as refused:
         return refused.number, refused.place, 0, later
-    return 0, 0, categories[sample], later
+    return 0, 0, record.categories[sample], later
 
 
 def view(file, variant):
@@ -122,8 +135,8 @@ def view(file, variant):
     return 0, 0, file[start:end]
 
 
-def refuse_arguments(categories, kind, code, anchor):
-    """The writer's refusals but for its output's size."""
+def refuse_arguments(categories, kind, code, anchor, phases=None):
+    """A writer's refusals but for its output's size; without phases, those of the writer that stores none."""
     N = len(categories)
     if not 1 <= N <= GREATEST_N:
         raise Refused(4, 0)
@@ -131,22 +144,42 @@ def refuse_arguments(categories, kind, code, anchor):
         raise Refused(19, 0)
     if len(anchor) != (N if kind in LEANING_KINDS else 0):
         raise Refused(10, 0)
+    if phases is not None and len(phases) != N:
+        raise Refused(10, 0)
     for buffer in (categories, anchor):
         for index, category in enumerate(buffer):
             if category > 3:
                 raise Refused(20, index)
+    for index, phase in enumerate(phases or b""):
+        if phase > SWAPPED or phase and categories[index] != HETEROZYGOUS:
+            raise Refused(22, index)
 
 
-def write_record(categories, kind, code, anchor, output):
-    """Write one main-track record."""
+def put_record(output, formed):
+    """A writer's reply; `formed` gives the record or refuses."""
     try:
-        refuse_arguments(categories, kind, code, anchor)
-        record = form_record(categories, kind, code, anchor, {})
+        record = formed()
         if len(output) < len(record):
             raise Refused(10, 0)
     except Refused as refused:
         return refused.number, refused.place, 0, output
     return 0, 0, len(record), record + output[len(record):]
+
+
+def write_record(categories, kind, code, anchor, output):
+    """Write one main-track record."""
+    def formed():
+        refuse_arguments(categories, kind, code, anchor)
+        return form_record(categories, kind, code, anchor, {})
+    return put_record(output, formed)
+
+
+def write_phased_record(categories, phases, kind, code, anchor, output):
+    """Write one record with a phase track; the kind is that of its main track."""
+    def formed():
+        refuse_arguments(categories, kind, code, anchor, phases)
+        return form_record(categories, kind, code, anchor, {}, written_track(categories, phases))
+    return put_record(output, formed)
 
 
 def flipped_kind_and_code(kind, code):
@@ -170,7 +203,8 @@ def flip_record(record, kind, member, anchor_member, anchor):
     listed_bits = {}
     if kind == 1:
         listed_bits = {sample: record.bits[sample] ^ turned for sample in record.listed}
-    return kind, categories, form_record(categories, kind, code, anchor, listed_bits)
+    track = flipped_track(record.track) if member else record.track
+    return kind, categories, form_record(categories, kind, code, anchor, listed_bits, track)
 
 
 def flip_accepted(file, header, records, flip_set):
@@ -183,7 +217,7 @@ def flip_accepted(file, header, records, flip_set):
     anchor, anchor_member = None, False
     for variant, record in enumerate(records):
         member = bool(flip_set[variant // 8] >> variant % 8 & 1)
-        old = header.types[variant]
+        old = header.types[variant] & KIND_BITS
         kind, categories, body = flip_record(record, old, member, anchor_member, anchor)
         start, end = header.record(variant)
         assert len(body) == end - start

@@ -6,7 +6,7 @@ A walk starts on a file and makes x steps. With a second string it starts on tha
 from pgen_cases import (GREATEST_OUTPUT, ROWS, Case, header_fault_subject, lent_size, record_fault_subject,
                         short_size, subject_of, valid_subject)
 from pgen_generate import FORMS, PLAIN_KINDS, SMALL_N, choose_kinds, make_file, make_records, random_file, tiny_file
-from pgen_header import BLOCK_SIZE, LEANING_KINDS
+from pgen_header import BLOCK_SIZE, LEANING_KINDS, leans
 from pgen_header_damage import HEADER_FAULTS, changed_anywhere, cut_header, cut_records, faulted, put
 from pgen_parts import FileParts, RecordParts, join_file
 from pgen_record_damage import RECORD_FAULTS
@@ -62,7 +62,7 @@ def with_leaning_ones(rng, fault):
     """A fault, wherever it can be in a record that leans on none; then records that lean on it, and a new anchor with its own."""
     for _ in range(20):
         parts, variant = fault(rng)
-        if parts.types[variant] not in LEANING_KINDS:
+        if not leans(parts.types[variant]):
             break
     leaning = [rng.choice(LEANING_KINDS) for _ in range(rng.randint(1, 4))]
     kinds = [0] + leaning + [rng.choice(PLAIN_KINDS)] + [rng.choice(LEANING_KINDS) for _ in range(rng.randint(0, 3))]

@@ -10,8 +10,8 @@ them, and checks nothing else of the file's header.
 
 from typing import NamedTuple
 
-from pgen_header import (GREATEST_M, GREATEST_N, LEANING_KINDS, PLAIN_MODE, Header, Refused,
-                         length_width, little, type_allowed, up)
+from pgen_header import (GREATEST_M, GREATEST_N, PLAIN_MODE, Header, Refused, leans, length_width, little, type_allowed,
+                         up)
 from pgen_record import read_record
 from pgen_reference import cleared, header_for
 
@@ -72,7 +72,7 @@ def type_and_length(rows, file):
         its_type &= 15
     if not type_allowed(its_type, rows.variant):
         raise Refused(8, place)
-    if its_type in LEANING_KINDS and rows.refusal not in (0, *RECORD_NUMBERS):
+    if leans(its_type) and rows.refusal not in (0, *RECORD_NUMBERS):
         raise Refused(8, place)
     place = header.length_place(rows.variant)
     return its_type, little(file[place:place + length_width(rows.form)])
@@ -94,7 +94,7 @@ def next_row(rows, file, output, work):
     except Refused as refused:
         return refused.number, refused.place, rows, output, work
     later = rows._replace(variant=rows.variant + 1, start=end)
-    leaning = its_type in LEANING_KINDS
+    leaning = leans(its_type)
     if leaning and rows.refusal:
         return rows.refusal, rows.place, later, output, work
     try:

@@ -1,11 +1,11 @@
 """Turns cases into the probe's input bytes and the lines it must print.
 
-    python3 probe_cases.py --seed S --cases N [--rows R] --stdin FILE --stdout FILE [--end WAY]
+    python3 probe_cases.py --seed S --cases N [--rows R] [--phases P] --stdin FILE --stdout FILE [--end WAY]
 
 The cases named "Tested only" always come first, then every fault with every call, then
-random cases up to N; last R cases of rows. A summary goes to standard error. With N of at
-least 2,000 and R of at least 250 the exit status is 1 if some call, or a step of rows, did
-not reach some refusal number that it can give.
+random cases up to N; then R cases of rows; last P cases of phases. A summary goes to standard
+error. With N of at least 2,000, R of at least 250 and P of at least 550 the exit status is 1 if
+some call, or a step of rows, did not reach some refusal number that it can give.
 
 A case of rows (call 23) makes x steps, at most 64, on the first string, after a start on the
 second, or on the first where the second is empty. Its line: refusal and place of the start;
@@ -20,9 +20,10 @@ from collections import Counter
 from itertools import chain, islice
 
 import pgen_reference as reference
-from pgen_cases import FLIP, HEADER, LOOKUP, READ, ROWS, VIEW, WHOLE_FILE, WRITE, random_case, sweep
-from pgen_header import Refused, read_header
+from pgen_cases import FLIP, HEADER, LOOKUP, PHASES, READ, ROWS, VIEW, WHOLE_FILE, WRITE, WRITE_PHASED, random_case, sweep
+from pgen_header import KIND_BITS, Refused, read_header
 from pgen_limit_cases import limit_cases
+from pgen_phase_cases import phase_cases, phase_sweep, random_phase_case
 from pgen_row_cases import GREATEST_STEPS, random_row_case, row_cases, row_sweep
 from pgen_rows import next_row, start_rows
 from scale_files import edge_cases
@@ -32,7 +33,8 @@ WORK_FILL = b"\x5a"
 STEP = 256  # no call's number: each step of rows is counted under it
 CALLS = {
     HEADER: "header check", WHOLE_FILE: "whole-file check", READ: "read", LOOKUP: "lookup",
-    VIEW: "view", WRITE: "write a record", FLIP: "flip", ROWS: "rows", STEP: "step",
+    VIEW: "view", WRITE: "write a record", FLIP: "flip", PHASES: "phases", WRITE_PHASED: "write a phased record",
+    ROWS: "rows", STEP: "step",
 }
 HEADER_REFUSALS = list(range(1, 10))
 RECORD_REFUSALS = list(range(12, 19))
@@ -44,16 +46,19 @@ POSSIBLE = {
     VIEW: HEADER_REFUSALS + [11],
     WRITE: [4, 10, 19, 20],
     FLIP: HEADER_REFUSALS + [10, 21] + RECORD_REFUSALS,
+    PHASES: HEADER_REFUSALS + [10, 11] + RECORD_REFUSALS,
+    WRITE_PHASED: [4, 10, 19, 20, 22],
     ROWS: HEADER_REFUSALS + [10],
     STEP: [8, 9, 10, 11] + RECORD_REFUSALS,
 }
 LIMITS = (524288, 131072, 131072, 131072)
 BAD_ENDS = {
     "none": b"",
-    "other-call": bytes([8]) + bytes(32),
+    "other-call": bytes([24]) + bytes(32),
     "call-0": bytes(33),
     "over-A": bytes([1]) + bytes(16) + (524289).to_bytes(4, "little") + bytes(12),
     "over-W": bytes([2]) + bytes(28) + (131073).to_bytes(4, "little"),
+    "over-phases": bytes([WRITE_PHASED]) + bytes(28) + (131073).to_bytes(4, "little"),
     "cut-head": bytes([1]) + bytes(31),
     "over-steps": bytes([ROWS, GREATEST_STEPS + 1]) + bytes(31),
     "far-over-steps": bytes([ROWS]) + (1 << 32).to_bytes(8, "little") + bytes(24),
@@ -62,11 +67,11 @@ BAD_ENDS = {
 
 def input_bytes(case):
     """A case in the probe's input form."""
-    sizes = (len(case.first), len(case.second), case.output, case.work)
+    sizes = (len(case.first), len(case.second), case.output, case.work + len(case.third))
     assert all(size <= limit for size, limit in zip(sizes, LIMITS)), sizes
     head = bytes([case.call]) + case.x.to_bytes(8, "little") + case.y.to_bytes(8, "little")
     head += b"".join(size.to_bytes(4, "little") for size in sizes)
-    return head + case.first + case.second
+    return head + case.first + case.second + case.third
 
 
 def rows_reply(case, output, work):
@@ -79,6 +84,13 @@ def rows_reply(case, output, work):
     return numbers, parts + [("w", work)]
 
 
+def written(case, output):
+    """A writer's reply."""
+    if case.call == WRITE:
+        return reference.write_record(case.first, case.x, case.y, case.second, output)
+    return reference.write_phased_record(case.first, case.third, case.x, case.y, case.second, output)
+
+
 def reply_to(case):
     """The reply's numbers, and the buffers that are printed, each with its letter."""
     output = OUTPUT_FILL * case.output
@@ -88,8 +100,9 @@ def reply_to(case):
     if case.call == WHOLE_FILE:
         *numbers, later = reference.whole_file_check(case.first, work)
         return numbers, [("w", later)]
-    if case.call == READ:
-        *numbers, later_output, later = reference.read(case.first, case.x, output, work)
+    if case.call in (READ, PHASES):
+        reading = reference.read if case.call == READ else reference.read_phases
+        *numbers, later_output, later = reading(case.first, case.x, output, work)
         return numbers, [("o", later_output), ("w", later)]
     if case.call == LOOKUP:
         *numbers, later = reference.lookup(case.first, case.x, case.y, work)
@@ -97,9 +110,8 @@ def reply_to(case):
     if case.call == VIEW:
         *numbers, part = reference.view(case.first, case.x)
         return numbers + [len(part)], [("p", part)]
-    if case.call == WRITE:
-        *numbers, later_output = reference.write_record(
-            case.first, case.x, case.y, case.second, output)
+    if case.call in (WRITE, WRITE_PHASED):
+        *numbers, later_output = written(case, output)
         return numbers, [("o", later_output)]
     if case.call == ROWS:
         return rows_reply(case, output, work)
@@ -123,15 +135,14 @@ def refusals_of(case, numbers, buffers):
 
 def kinds_of(case):
     """The kinds that an accepted call concerned."""
-    if case.call == WRITE:
+    if case.call in (WRITE, WRITE_PHASED):
         return {case.x}
     try:
         header = read_header(case.first)
     except Refused:
         return set()
-    if case.call in (READ, LOOKUP, VIEW):
-        return {header.types[case.x]}
-    return set(header.types)
+    types = [header.types[case.x]] if case.call in (READ, PHASES, LOOKUP, VIEW) else header.types
+    return {its_type & KIND_BITS for its_type in types}
 
 
 def all_cases(seed, count, rows):
@@ -144,11 +155,17 @@ def all_cases(seed, count, rows):
     return chain(islice(chain(first, swept, endless), max(count, len(first))), islice(of_rows, rows))
 
 
+def cases_of_phases(seed, count):
+    """So many cases of phases, from a seed."""
+    return islice(phase_cases(random.Random(f"phases {seed}")), count)
+
+
 def fresh_cases(seed, count):
     """Every fault and every edge with every call, and then random cases: a seed's cases without those named "Tested only"."""
     rng = random.Random(f"fresh {seed}")
-    endless = ((random_row_case if rng.random() < 0.15 else random_case)(rng) for _ in iter(int, 1))
-    return islice(chain(sweep(rng), edge_cases(rng), row_sweep(rng), endless), count)
+    families = [random_case] * 5 + [random_row_case] + [random_phase_case] * 2
+    endless = (rng.choice(families)(rng) for _ in iter(int, 1))
+    return islice(chain(sweep(rng), edge_cases(rng), row_sweep(rng), phase_sweep(rng), endless), count)
 
 
 class Summary:
@@ -182,7 +199,7 @@ class Summary:
             print(f"{name}: {self.calls[call]}; refusals {reached}", file=out)
         kinds = " ".join(f"{kind}:{self.kinds[kind]}" for kind in sorted(self.kinds))
         print(f"kinds in accepted calls: {kinds}", file=out)
-        refusals = " ".join(f"{number}:{self.refusals[number]}" for number in range(22))
+        refusals = " ".join(f"{number}:{self.refusals[number]}" for number in range(23))
         print(f"all refusals: {refusals}", file=out)
 
 
@@ -192,6 +209,7 @@ def parse_arguments():
     parser.add_argument("--seed", type=int, default=1)
     parser.add_argument("--cases", type=int, default=2000)
     parser.add_argument("--rows", type=int, default=250)
+    parser.add_argument("--phases", type=int, default=550)
     parser.add_argument("--stdin", required=True, help="where the probe's input goes")
     parser.add_argument("--stdout", required=True, help="where the lines go")
     parser.add_argument("--end", choices=sorted(BAD_ENDS), default="none",
@@ -204,7 +222,7 @@ def main():
     arguments = parse_arguments()
     summary = Summary()
     with open(arguments.stdin, "wb") as to_probe, open(arguments.stdout, "w") as lines:
-        for case in all_cases(arguments.seed, arguments.cases, arguments.rows):
+        for case in chain(all_cases(arguments.seed, arguments.cases, arguments.rows), cases_of_phases(arguments.seed, arguments.phases)):
             reply = reply_to(case)
             to_probe.write(input_bytes(case))
             lines.write(line_of(*reply) + "\n")
@@ -216,7 +234,7 @@ def main():
     missing = summary.missing()
     for call, number in missing:
         print(f"not reached: {CALLS[call]}, refusal {number}", file=sys.stderr)
-    return 1 if missing and arguments.cases >= 2000 and arguments.rows >= 250 else 0
+    return 1 if missing and arguments.cases >= 2000 and arguments.rows >= 250 and arguments.phases >= 550 else 0
 
 
 if __name__ == "__main__":

@@ -76,12 +76,12 @@ def flipped(run, files, sets, samples):
     return [bytes.fromhex(line.split()[3]) for line in run_lines(run, cases)]
 
 
-def check_flips(tally, run, seed):
+def check_flips(tally, run, seed, make=random_file):
     """One set and then a second is the set of those in just one of the two; twice restores the file."""
     rng = random.Random(seed)
     files, first, second, samples = [], [], [], []
     while len(files) < FRESH_FLIPS:
-        parts = random_file(rng)
+        parts = make(rng)
         file, M = join_file(parts)[0], parts.M()
         if len(file) <= GREATEST_FILE:
             files.append(file)
@@ -108,12 +108,12 @@ def steps_of_reads(lines, output):
         yield number, place, output
 
 
-def check_rows(tally, run, seed):
+def check_rows(tally, run, seed, valid=valid_subject, faults=tuple(RECORD_FAULTS)):
     """The v-th row of a walk is what a read of variant v gives, in valid files and in those with a fault in a record."""
     rng = random.Random(f"rows {seed}")
     walks, reads, subjects = [], [], []
     for number in range(FRESH_WALKS):
-        subject = with_leaning_ones(rng, rng.choice(RECORD_FAULTS)) if number % 2 else valid_subject(rng)
+        subject = with_leaning_ones(rng, rng.choice(faults)) if number % 2 else valid(rng)
         case = Case(READ, first=subject.file, output=subject.N, work=subject.N)
         steps = min(subject.M, GREATEST_STEPS)
         subjects.append((subject.N, len(reads), len(reads) + steps))

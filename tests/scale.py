@@ -138,7 +138,8 @@ def one_file(words):
     for at, case in enumerate(cases):
         got, want = run("probe", input_bytes(case)).decode(), expected(case)[1] + "\n"
         same = same and got == want
-        print(f"{CALLS[case.call]}: x {case.x}, y {case.y}, lengths {len(case.first)} {len(case.second)}, output {case.output}, work {case.work}")
+        lengths = f"{len(case.first)} {len(case.second)} {len(case.third)}"
+        print(f"{CALLS[case.call]}: x {case.x}, y {case.y}, lengths {lengths}, output {case.output}, work {case.work}")
         print(f"  got  {short(got)}\n  want {short(want)}\n  {'same' if got == want else 'DIFFERENT'}")
         if words.keep:
             Path(words.keep).mkdir(parents=True, exist_ok=True)

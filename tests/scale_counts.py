@@ -2,18 +2,20 @@
 
 from collections import Counter
 
-from pgen_cases import FLIP, LOOKUP, READ, ROWS, WRITE
+from pgen_cases import FLIP, LOOKUP, PHASES, READ, ROWS, WRITE, WRITE_PHASED
 from pgen_generate import FORMS
-from pgen_header import BLOCK_SIZE, LEANING_KINDS, Refused, read_header
+from pgen_header import BLOCK_SIZE, KIND_BITS, LEANING_KINDS, PHASED, Refused, leans, read_header
 from probe_cases import CALLS, POSSIBLE, RECORD_REFUSALS
 
 KINDS = [0, 1, 2, 3, 4, 6, 7]
-REFUSALS = range(22)
+REFUSALS = range(23)
 MEMBERSHIPS = [(member, anchor_member) for member in (False, True) for anchor_member in (False, True)]
 LIMITS_OF_N = (1, 4, 5, 63, 64, 65, 255, 256, 257, 300, 65535, 65536)
 LIST_REFUSALS = [12, 13, 15, 16, 17, 18]
+TRACK_REFUSALS = [12, 13, 18]
 USES = {"read": "reads and lookups accepted", "refused": "refused in a record", "flipped": "records flipped", "written": "records written",
-        "row": "rows of walks"}
+        "row": "rows of walks", "phases": "phases of a track read", "track flipped": "tracks flipped", "phased": "phased records written",
+        "phased row": "rows of walks with a track"}
 
 
 class Counts:
@@ -51,9 +53,9 @@ class Counts:
         for call, number in refusals:
             self.of["call", call, number] += 1
         number = refusals[0][1]
-        if case.call == WRITE:
+        if case.call in (WRITE, WRITE_PHASED):
             if number == 0:
-                self.of["kind", "written", case.x] += 1
+                self.of["kind", "written" if case.call == WRITE else "phased", case.x] += 1
         elif self.header is not None and number is not None and number not in range(1, 12):
             self.kinds(case, number)
             if case.call == ROWS and not case.second and case.first == self.header.file:
@@ -62,11 +64,11 @@ class Counts:
     def walked(self, numbers):
         """The kinds of the rows of a walk, and how often a refused anchor's number was given again for a record that leans on it."""
         anchor = 0
-        for kind, number in zip(self.header.types, numbers):
+        for its_type, number in zip(self.header.types, numbers):
             if number in range(1, 12):
                 return
-            self.of["kind", "row", kind] += number == 0
-            if kind not in LEANING_KINDS:
+            self.of["kind", "phased row" if its_type & PHASED else "row", its_type & KIND_BITS] += number == 0
+            if not leans(its_type):
                 anchor = number
             elif anchor:
                 self.of["again", anchor] += 1
@@ -74,20 +76,26 @@ class Counts:
     def kinds(self, case, number):
         """The kinds that a call concerned: of the variant asked for, or of all that were flipped."""
         types = self.header.types
-        if case.call in (READ, LOOKUP):
-            self.of["kind", "refused" if number else "read", types[case.x]] += 1
-            self.of["kind and refusal", types[case.x], number] += 1
+        if case.call in (READ, LOOKUP, PHASES):
+            kind, phased = types[case.x] & KIND_BITS, types[case.x] & PHASED
+            use = "phases" if phased and case.call == PHASES else "read"
+            self.of["kind", "refused" if number else use, kind] += 1
+            self.of["kind and refusal", kind, number] += 1
+            self.of["kind and refusal with a track", kind, number] += bool(phased)
         elif case.call == FLIP and number == 0:
             self.flipped(types, case.second)
 
     def flipped(self, types, flip_set):
         """The kinds of the members, and of leaning records whether they and their anchors are members."""
         anchor_member = False
-        for variant, kind in enumerate(types):
+        for variant, its_type in enumerate(types):
+            kind, phased = its_type & KIND_BITS, its_type & PHASED
             member = bool(flip_set[variant // 8] >> variant % 8 & 1)
             self.of["kind", "flipped", kind] += member
+            self.of["kind", "track flipped", kind] += bool(member and phased)
             if kind in LEANING_KINDS:
                 self.of["leaning", kind, member, anchor_member] += 1
+                self.of["leaning with a track", kind, member, anchor_member] += bool(phased)
             else:
                 anchor_member = member
 
@@ -120,8 +128,9 @@ class Counts:
             yield from (("kind", what, kind) for what in USES)
             its_own = [12, 13, 18] if kind == 0 else LIST_REFUSALS + [14] * (kind == 1)
             yield from (("kind and refusal", kind, number) for number in its_own)
+            yield from (("kind and refusal with a track", kind, number) for number in TRACK_REFUSALS)
         for kind in LEANING_KINDS:
-            yield from (("leaning", kind, *members) for members in MEMBERSHIPS)
+            yield from ((name, kind, *members) for name in ("leaning", "leaning with a track") for members in MEMBERSHIPS)
         for mode, forms in FORMS.items():
             yield from (("mode and form", mode, form) for form in forms)
         yield from (("again", number) for number in RECORD_REFUSALS)
@@ -136,7 +145,7 @@ class Counts:
     def damages(self):
         """Files by their damage."""
         lines = [f"  {name}: {count}" for (_, name), count in self.under("damage")]
-        faults = "; ".join(f"{name} {count}" for (_, name), count in self.under("fault") if name.startswith(("record:", "header:")))
+        faults = "; ".join(f"{name} {count}" for (_, name), count in self.under("fault") if name.startswith(("record:", "track:", "header:")))
         return "\n".join(["files by damage:", *lines, f"  each fault: {faults}"])
 
     def refusals(self):
@@ -151,7 +160,7 @@ class Counts:
         return "\n".join(["calls by refusal number:"] + lines)
 
     def record_kinds(self):
-        """A row for each kind: reads and lookups accepted and refused, records flipped and written, rows of walks."""
+        """A row for each kind: reads and lookups accepted and refused, records flipped and written, rows of walks; the same of tracks."""
         lines = ["| Kind | " + " | ".join(USES.values()) + " |", "|---" * (len(USES) + 1) + "|"]
         for kind in KINDS:
             lines.append(f"| {kind} | " + " | ".join(str(self.of["kind", name, kind]) for name in USES) + " |")
@@ -163,13 +172,16 @@ class Counts:
         lines = ["| Kind | " + " | ".join(map(str, numbers)) + " |", "|---" * 8 + "|"]
         for kind in KINDS:
             lines.append(f"| {kind} | " + " | ".join(str(self.of["kind and refusal", kind, number]) for number in numbers) + " |")
+        for kind in KINDS:
+            lines.append(f"| {kind} with a track | " + " | ".join(str(self.of["kind and refusal with a track", kind, number]) for number in numbers) + " |")
         return "\n".join(["refusals of reads and lookups by the kind asked for:"] + lines)
 
     def leaning(self):
         """Leaning records of accepted flips by kind, their own membership and their anchor's."""
         lines = ["| Kind | neither | anchor only | itself only | both |", "|---|---|---|---|---|"]
-        for kind in LEANING_KINDS:
-            lines.append(f"| {kind} | " + " | ".join(str(self.of["leaning", kind, *members]) for members in MEMBERSHIPS) + " |")
+        for name, words in (("leaning", ""), ("leaning with a track", " with a track")):
+            for kind in LEANING_KINDS:
+                lines.append(f"| {kind}{words} | " + " | ".join(str(self.of[name, kind, *members]) for members in MEMBERSHIPS) + " |")
         return "\n".join(["leaning records of accepted flips, by who is a member:"] + lines)
 
     def forms(self):

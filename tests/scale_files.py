@@ -3,12 +3,15 @@
 import random
 from pathlib import Path
 
-from pgen_cases import (FILE_CALLS, GREATEST_OUTPUT, LOOKUP, READ, WRITE, Case, Subject, file_case, header_fault_subject, near_base,
+from pgen_cases import (FILE_CALLS, GREATEST_OUTPUT, LOOKUP, PHASES, READ, WRITE, Case, Subject, file_case, header_fault_subject, near_base,
                         random_writer_case, record_fault_subject, subject_of, valid_subject, with_argument_faults, with_output)
 from pgen_generate import random_file, tiny_file
-from pgen_header import BLOCK_SIZE, read_header
+from pgen_header import BLOCK_SIZE, Header
 from pgen_header_damage import HEADER_FAULTS, changed_anywhere, offset_wrong, put
 from pgen_parts import join_file
+from pgen_phase_cases import phased_subject, random_phased_writer_case
+from pgen_phase_damage import TRACK_FAULTS, upper_bit
+from pgen_phase_generate import random_phased_file
 from pgen_record import PAIRS
 from pgen_record_damage import RECORD_FAULTS, any_step, with_list
 from pgen_row_cases import rows_on
@@ -18,7 +21,7 @@ MANY_SAMPLES_EVERY = 500
 LONG_WRITER_EVERY = 500
 EDGE_VARINTS = ["ffffffff0f", "8080808010", "8180808010", "ffffffff7f", "8080808080", "808080808001", "8080808000", "8080808001", "80808001",
                 "ffffff7f", "8000", "ff00", "80", "ffffffff"]
-REAL_NAMES = ("five", "herd", "long_lists", "plain", "two_byte_numbers")
+REAL_NAMES = ("five", "herd", "long_lists", "plain", "two_byte_numbers", "part_phased")
 REAL = [(Path(__file__).resolve().parent / "real" / f"{name}.pgen").read_bytes() for name in REAL_NAMES]
 
 
@@ -51,7 +54,8 @@ def many_samples(rng):
 def real_changed(rng):
     """A file made by plink2, with bytes changed, put in or taken out."""
     real = rng.choice(REAL)
-    header = read_header(real)
+    header = Header(real)
+    header.find_types()
     file = bytearray(real)
     changed_anywhere(rng, file, None)
     return Subject(bytes(file), header.M, header.N, rng.randrange(header.M), list(header.types))
@@ -105,12 +109,26 @@ FAMILIES = [("a record and the header", record_and_header_fault), ("a plink2 fil
             ("form, M or N at an edge", edge_header)]
 
 
+def chosen_with_tracks(rng):
+    """The same for a file that has phase tracks."""
+    roll = rng.random()
+    if roll < 0.45:
+        return "none: a valid file with tracks", phased_subject(rng)
+    if roll < 0.85:
+        fault = rng.choice(TRACK_FAULTS + [upper_bit])
+        return f"track: {fault.__name__}", record_fault_subject(rng, fault)
+    fault = rng.choice(HEADER_FAULTS)
+    return f"header: {fault.__name__}", header_fault_subject(rng, fault, random_phased_file)
+
+
 def chosen(rng, number):
     """The name of the damage, and the file."""
     if number % MANY_VARIANTS_EVERY == 0:
         return "M near or above 65,536", many_variants(rng)
     if number % MANY_SAMPLES_EVERY == 1:
         return "N near 65,536", many_samples(rng)
+    if rng.random() < 0.3:
+        return chosen_with_tracks(rng)
     roll = rng.random()
     if roll < 0.36:
         return "none: a valid file", valid_subject(rng)
@@ -133,10 +151,11 @@ def long_writer_case(rng):
 
 
 def cases_of(seed, number):
-    """File `number` of a seed: the name of its damage, and its cases: each call on it, a record to be written, and rows."""
+    """File `number` of a seed: the name of its damage, and its cases: each call on it, a record and a phased one to be written, and rows."""
     rng = random.Random(f"{seed}/{number}")
     name, subject = chosen(rng, number)
-    cases = [with_argument_faults(rng, file_case(rng, call, subject), subject) for call in FILE_CALLS]
+    cases = [with_argument_faults(rng, file_case(rng, call, subject), subject) for call in FILE_CALLS + [PHASES]]
     cases.append(long_writer_case(rng) if number % LONG_WRITER_EVERY == 2 else random_writer_case(rng))
+    cases.append(random_phased_writer_case(rng))
     cases.append(rows_on(rng, subject))
     return name, cases

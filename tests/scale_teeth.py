@@ -15,7 +15,8 @@ from pathlib import Path
 
 ROOT = Path(__file__).resolve().parent.parent
 HEADER, RECORD, CALLS, ROWS = "pgen_header.py", "pgen_record.py", "pgen_reference.py", "pgen_rows.py"
-CASES_OF_A_FILE = 8
+PACKED, PHASE = "pgen_packed.py", "pgen_phase.py"
+CASES_OF_A_FILE = 10
 # what is wrong; the file; the text; what stands for it; whether it shows in files of more than one block only
 WRONG = [
     ("N = 256 uses two-byte numbers", RECORD, "return 1 if N <= 256", "return 1 if N <= 255", False),
@@ -24,7 +25,7 @@ WRONG = [
     ("the count may be N + 1", RECORD, "if L > N:", "if L > N + 1:", False),
     ("the size byte is not checked", RECORD, "if place - group_start != file[size_place] + 63:", "if False:", False),
     ("64 entries are two groups", RECORD, "width, G = number_width(N), up(L, GROUP)", "width, G = number_width(N), up(L + 1, GROUP)", False),
-    ("unused bits are not checked", RECORD, "if used and file[after - 1] >> used:", "if False:", False),
+    ("unused bits are not checked", PACKED, "if used and file[after - 1] >> used:", "if False:", False),
     ("refusal 17 at the list's first value byte", RECORD, "raise Refused(17, value_start + k // 4)", "raise Refused(17, value_start)", False),
     ("16 of a head at the list's first head", RECORD, "number_place = heads + k // GROUP * width\n", "number_place = heads\n", False),
     ("17 before 16", RECORD, "        if sample <= before or sample >= N:\n            raise Refused(16, number_place)\n        if values[k]",
@@ -36,11 +37,11 @@ WRONG = [
     ("a cut varint is 15", RECORD, "        if place + i >= end:\n            raise Refused(12, end)",
      "        if place + i >= end:\n            raise Refused(15, place)", False),
     ("one byte may be left", RECORD, "if place < end:", "if place + 1 < end:", False),
-    ("kind 3 inverts the anchor and not the listed values", RECORD, "record = Record(exchange(categories) if kind == 3 else categories, 0, (), listed)",
-     "record = Record(patched(exchange(under), listed) if kind == 3 else categories, 0, (), listed)", False),
+    ("kind 3 inverts the anchor and not the listed values", RECORD, "return Record(exchange(categories) if kind == 3 else categories, 0, (), listed)",
+     "return Record(patched(exchange(under), listed) if kind == 3 else categories, 0, (), listed)", False),
     ("code 9 is 1,3", RECORD, "9: (2, 3)}", "9: (1, 3)}", False),
     ("the writer keeps a 1 for listed samples", RECORD, "bits[sample] = listed_bits.get(sample, 0)", "bits[sample] = listed_bits.get(sample, 1)", False),
-    ("kind 2 serves as an anchor of reads", HEADER, "while self.types[earlier] in LEANING_KINDS:", "while False:", False),
+    ("kind 2 serves as an anchor of reads", HEADER, "while leans(self.types[earlier]):", "while False:", False),
     ("kind 2 at the start of a later block", HEADER, "leaning_first = variant % BLOCK_SIZE == 0", "leaning_first = variant == 0", True),
     ("7 after 8", HEADER, "refuse_lowest(7, header.unused_bits_places())\n    header.find_types()\n    refuse_lowest(8, header.bad_type_places())",
      "header.find_types()\n    refuse_lowest(8, header.bad_type_places())\n    refuse_lowest(7, header.unused_bits_places())", False),
@@ -82,6 +83,30 @@ WRONG = [
     ("a refused record leaves the work area", ROWS, "work = cleared(work, rows.N)", "work = work", False),
     ("a leaning row is an anchor's", ROWS, "    if not leaning:\n        later = later._replace(refusal=0",
      "    if True:\n        later = later._replace(refusal=0", False),
+    ("bit 4 is not allowed", HEADER, "return its_type & ~PHASED <= KIND_BITS", "return its_type <= KIND_BITS", False),
+    ("bit 5 is allowed", HEADER, "return its_type & ~PHASED <= KIND_BITS", "return its_type & ~(PHASED | 32) <= KIND_BITS", False),
+    ("a type with bit 4 leans on none", HEADER, "return its_type & KIND_BITS in LEANING_KINDS", "return its_type in LEANING_KINDS", False),
+    ("H is the anchor's", RECORD, "heterozygous(record.categories))", "heterozygous(anchor or record.categories))", False),
+    ("H counts category 2", PHASE, "count(HETEROZYGOUS)", "count(2)", False),
+    ("phase bits begin at bit 1 where no presence bits are stored", PHASE, "    stored = bool(file[place] & 1)\n",
+     "    stored = bool(file[place] & 1)\n    if not stored:\n        bits, place = read_array(file, place, end, 1, 1 + H)\n"
+     "        return Track(stored, bytes(UNSWAPPED + bit for bit in bits[1:])), place\n", False),
+    ("a phase bit for each heterozygous call", PHASE, "P = sum(presence)", "P = H", False),
+    ("presence bits are stored where none is needed", PHASE, "return Track(UNPHASED in of_calls, of_calls)", "return Track(True, of_calls)", False),
+    ("a set phase bit is unswapped", PHASE, "bytes(UNSWAPPED + next(bits) if", "bytes(SWAPPED - next(bits) if", False),
+    ("no heterozygous call has no track", PHASE, "    if place >= end:\n",
+     "    if H == 0:\n        return Track(False, b\"\"), place\n    if place >= end:\n", False),
+    ("a flip leaves phase bits", CALLS, "track = flipped_track(record.track) if member else record.track", "track = record.track", False),
+    ("a flip turns the phase bits of what leans on a member", CALLS, "flipped_track(record.track) if member else",
+     "flipped_track(record.track) if member or kind in LEANING_KINDS and anchor_member else", False),
+    ("categories are read for phases", CALLS, "lambda record: record.phases()", "lambda record: record.categories", False),
+    ("22 before 20", CALLS, "        raise Refused(10, 0)\n    for buffer in",
+     "        raise Refused(10, 0)\n    if phases and max(phases) > SWAPPED:\n        raise Refused(22, 0)\n    for buffer in", False),
+    ("22 after the output's 10", CALLS, "    for index, phase in enumerate(phases or b\"\"):\n", "    for index, phase in enumerate(b\"\"):\n", False),
+    ("phase 3 is written", CALLS, "if phase > SWAPPED or phase and", "if phase > 3 or phase and", False),
+    ("a phase outside category 1 is written", CALLS, " or phase and categories[index] != HETEROZYGOUS:", ":", False),
+    ("longer phases are allowed", CALLS, "    if phases is not None and len(phases) != N:",
+     "    phases = phases and phases[:N]\n    if phases is not None and len(phases) != N:", False),
 ]
 
 

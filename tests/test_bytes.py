@@ -4,6 +4,8 @@ import unittest
 
 import compare
 from pgen_byte_cases import ABOVE_A_BYTE, runs, sweeps, table
+from pgen_header import PHASED
+from pgen_phase_bytes import PHASED_TYPES, phase_sweeps
 from pgen_record import PAIRS
 from probe_cases import line_of, reply_to
 
@@ -14,6 +16,11 @@ def allowed(its_type, first=False):
     """A type that is allowed, with the same low bits where they are allowed."""
     kind = its_type & 7
     return 0 if kind == 5 or first and kind in (2, 3) else kind
+
+
+def allowed_wide(its_type, first=False):
+    """A type of 8 bits, likewise: bit 4 is allowed."""
+    return allowed(its_type, first) | its_type & PHASED
 
 
 def allowed_both(byte, first=False):
@@ -27,9 +34,13 @@ TAKEN_FOR = [
     ("mode, in a file laid out for 0x10", 2, lambda value: 0x10), ("mode, in a file laid out for 0x02", 2, lambda value: 0x02),
     ("form, mode 0x10", 11, lambda value: value & 0xc7), ("form, mode 0x02", 11, lambda value: value & 0xc0),
     ("types of 4 bits, byte 0", 20, lambda value: allowed_both(value, True)), ("types of 4 bits, byte 1", 21, allowed_both),
-    ("types of 4 bits, byte 2", 22, allowed), ("types of 8 bits, byte 0", 20, lambda value: allowed(value, True)),
-    ("types of 8 bits, byte 1", 21, allowed), ("types of 8 bits, byte 4", 24, allowed),
+    ("types of 4 bits, byte 2", 22, allowed), ("types of 8 bits, byte 0", 20, lambda value: allowed_wide(value, True)),
+    ("types of 8 bits, byte 1", 21, allowed_wide), ("types of 8 bits, byte 4", 24, allowed_wide),
     ("pair code", 23, lambda value: 1), ("size byte", 26, lambda value: 0),
+]
+TAKEN_FOR_OF_PHASES = [
+    ("types of 8 bits with bit 4, byte 0", 20, lambda value: allowed_wide(value, True)), ("types of 8 bits with bit 4, byte 1", 21, allowed_wide),
+    ("first byte of a track", 26, lambda value: value & 0x3f if value & 1 else 0), ("phase bits", 27, lambda value: value & 0x1f),
 ]
 
 
@@ -46,7 +57,7 @@ def changed(case, place, value):
 class Bytes(unittest.TestCase):
     """What is tried, and what is seen."""
 
-    found = list(sweeps())
+    found = [*sweeps(), *phase_sweeps()]
 
     def values(self, cases):
         """The values that a sweep's cases have, in order."""
@@ -57,26 +68,27 @@ class Bytes(unittest.TestCase):
         return next(sweep for sweep in self.found if sweep.name == name)
 
     def test_table(self):
-        self.assertEqual((compare.ROOT / "tests" / "every_value.txt").read_text(), table(reply_to))
+        self.assertEqual((compare.ROOT / "tests" / "every_value.txt").read_text(), table(reply_to) + table(reply_to, phase_sweeps))
 
     def test_every_value(self):
         tried = {sweep.name: [self.values(cases) for cases in (sweep.alone, sweep.behind)] for sweep in self.found}
         for name in [name for name, _, _ in TAKEN_FOR] + ["flip set"]:
             self.assertEqual(tried[name], [EVERY] * 2, name)
         for name in [name for name in tried if name.endswith("in steps")]:
-            self.assertEqual(tried[name], [EVERY, []], name)
+            self.assertEqual(tried[name], [PHASED_TYPES if "with bit 4" in name else EVERY, []], name)
+        self.assertEqual(tried["first byte of a track"], [EVERY, []])
         for name in ["writer's kind"] + [f"writer's pair code, kind {kind}" for kind in (0, 1, 2)]:
             self.assertEqual(tried[name], [EVERY + ABOVE_A_BYTE] * 2, name)
         for name in [f"writer's pair code, kind {kind}" for kind in (3, 4, 6, 7)]:
             self.assertEqual(tried[name], [EVERY[:10] + ABOVE_A_BYTE] * 2, name)
 
     def test_each_case_has_its_value(self):
-        for name, place, _ in TAKEN_FOR:
+        for name, place, _ in TAKEN_FOR + TAKEN_FOR_OF_PHASES:
             for value, case in self.sweep(name).alone:
                 self.assertEqual(case.first[place], value, name)
 
     def test_one_value_taken_for_another(self):
-        for name, place, other in TAKEN_FOR:
+        for name, place, other in TAKEN_FOR + TAKEN_FOR_OF_PHASES:
             for value, case in self.sweep(name).alone + self.sweep(name).behind:
                 if other(value) != value and not (name == "pair code" and value in PAIRS):
                     self.assertNotEqual(line(case), line(changed(case, place, other(value))), (name, value))

@@ -66,10 +66,13 @@ class Headers(unittest.TestCase):
             self.check(two_variants(types), 8, 20)
         for types in ("20", "30", "24", "76"):
             self.check(two_variants(types), 0, 0)
-        for types, place in (("0005", 21), ("0500", 20), ("0800", 20), ("0010", 21), ("0080", 21),
+        for types, place in (("0005", 21), ("0500", 20), ("0800", 20), ("0015", 21), ("0080", 21),
                              ("0200", 20), ("4000", 20), ("0505", 20)):
             self.check(two_variants(types, form="04"), 8, place)
-        self.check(two_variants("0003", form="04"), 0, 0)
+        for types in ("0003", "1012", "0013", "1710"):
+            self.check(two_variants(types, form="04"), 0, 0)
+        for types in ("1200", "1300", "1500", "1800", "3000", "5000", "9000"):
+            self.check(two_variants(types, form="04"), 8, 20)
 
     def test_order(self):
         good = two_variants("20", flags="03", form="c0")

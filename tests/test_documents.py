@@ -1,9 +1,13 @@
 """The documents name what is there: files, must-fail edits, definitions and theorems. The public calls ask for nothing, and have one equation each."""
 import re
+import sys
 import unittest
 from pathlib import Path
 
 ROOT = Path(__file__).resolve().parent.parent
+sys.path.insert(0, str(ROOT / "tools"))
+import statements  # noqa: E402
+
 DOCUMENTS = sorted([ROOT / "README.md", *(ROOT / "docs").glob("*.md"), *(ROOT / "tests").rglob("*.md")])
 # Documents that name definitions and theorems. The others speak of plink2's options too, which look alike.
 OF_NAMES = ("THEOREMS.md", "SCOPE-TRACE.md", "DECISIONS.md", "ARCHITECTURE.md")
@@ -32,8 +36,13 @@ def edits():
 
 def calls():
     """The public calls: what a caller writes, the crate where the call stands, and its name there."""
-    text = (ROOT / "crates" / "pgen" / "src" / "lib.rt").read_text(encoding="utf-8")
-    return [(alias or name, crate, name) for crate, name, alias in re.findall(r"^pub use (\w+)::(\w+)(?: as (\w+))?;$", text, re.M)]
+    return [(call, path.parent.parent.name, name) for call, path, name in statements.calls(statements.Sources())]
+
+
+def signature(call):
+    """The lines of a call's source from its name to its body."""
+    path, name = next((path, name) for other, path, name in statements.calls(statements.Sources()) if other == call)
+    return re.search(rf"(?ms)^pub (fn {name}\b.*?)^{{$", path.read_text(encoding="utf-8")).group(1)
 
 
 class Documents(unittest.TestCase):
@@ -61,16 +70,15 @@ class Documents(unittest.TestCase):
 
     def test_calls_stand_where_told(self):
         readme = (ROOT / "README.md").read_text(encoding="utf-8")
-        self.assertEqual(len(calls()), 9)
+        self.assertEqual(len(calls()), 12)
         for call, crate, _ in calls():
             self.assertRegex(readme, rf"(?m)^\| `{call}\(.* \| `{crate}`[^|]*\|$")
 
     def test_signatures_are_those_of_the_sources(self):
         readme = indented(ROOT / "README.md")
-        for call, crate, name in calls():
-            source = (ROOT / "crates" / crate / "src" / "lib.rt").read_text(encoding="utf-8")
-            signature = re.search(rf"(?ms)^pub (fn {name}\b.*?)\s*^    ensures", source).group(1)
-            line = re.sub(r"\s+", " ", signature).replace("( ", "(").replace(", )", ")").replace(f"fn {name}", f"fn {call}", 1)
+        for call, _, name in calls():
+            head = re.split(r"\s*^    ensures", signature(call), maxsplit=1, flags=re.M)[0]
+            line = re.sub(r"\s+", " ", head).replace("( ", "(").replace(", )", ")").replace(f"fn {name}", f"fn {call}", 1)
             self.assertIn(line, readme)
 
     def test_the_example_is_the_crates(self):
@@ -80,9 +88,8 @@ class Documents(unittest.TestCase):
         self.assertIn(re.sub(r"\n\n", "\n", shown), readme)
 
     def test_calls_ask_for_nothing(self):
-        for call, crate, name in calls():
-            source = (ROOT / "crates" / crate / "src" / "lib.rt").read_text(encoding="utf-8")
-            contract = re.search(rf"(?ms)^pub fn {name}\b.*?^{{$", source).group()
+        for call, _, _ in calls():
+            contract = signature(call)
             self.assertEqual((contract.count("requires"), contract.count("ensures"), contract.count("≡")), (0, 1, 1), f"{call}: {contract}")
 
     def test_every_edit_is_listed(self):

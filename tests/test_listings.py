@@ -3,6 +3,7 @@
 import contextlib
 import functools
 import io
+import re
 import unittest
 from unittest import mock
 
@@ -68,6 +69,11 @@ def kinds_for_types(data):
     return right(data).replace(b" 3 ", b" 2 ")
 
 
+def bit_4_left_out(data):
+    """Prints a phased variant's kind for its type."""
+    return re.sub(rb"(?m)^(\d+) (1[6-9]|2[0-3]) ", lambda found: b"%s %d " % (found[1], int(found[2]) - 16), right(data))
+
+
 @mock.patch.object(listing_cases, "listing", once)
 @mock.patch.object(listing_cases, "LENGTHS", listing_cases.LENGTHS[:6])
 class Listings(unittest.TestCase):
@@ -87,11 +93,11 @@ class Listings(unittest.TestCase):
         self.assertEqual(self.failed(check_pieces, lambda data, size: right(data), A), 0)
 
     def test_wrong_in_long_listings(self):
-        for wrong in (loses_its_last_piece, loses_a_whole_last_piece, stops_after_two_pieces, prints_before_it_checks, one_byte_less):
+        for wrong in (loses_its_last_piece, loses_a_whole_last_piece, stops_after_two_pieces, prints_before_it_checks, one_byte_less, bit_4_left_out):
             self.assertGreater(self.failed(check_long_listings, wrong, 2), 0, wrong.__name__)
 
     def test_wrong_in_fresh_listings(self):
-        for wrong in (prints_before_it_checks, refuses_at_0, no_last_line_end, kinds_for_types):
+        for wrong in (prints_before_it_checks, refuses_at_0, no_last_line_end, kinds_for_types, bit_4_left_out):
             self.assertGreater(self.failed(check_listings, wrong, 2), 0, wrong.__name__)
 
     def test_wrong_with_pieces(self):
@@ -105,7 +111,8 @@ class Listings(unittest.TestCase):
 
     def test_sizes(self):
         for length in LENGTHS:
-            self.assertTrue(list(sizes_for(length)), length)
+            for digits in (1, 2):
+                self.assertTrue(list(sizes_for(length, digits)), length)
 
 
 if __name__ == "__main__":

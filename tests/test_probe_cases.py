@@ -4,7 +4,8 @@ import random
 import unittest
 
 import probe_cases
-from pgen_cases import READ, Case, random_case
+from pgen_cases import READ, WRITE_PHASED, Case, random_case
+from pgen_phase_cases import random_phase_case
 from pgen_row_cases import random_row_case
 from test_reference import A
 
@@ -14,9 +15,11 @@ def taken_apart(data):
     numbers = [int.from_bytes(data[a:b], "little")
                for a, b in ((1, 9), (9, 17), (17, 21), (21, 25), (25, 29), (29, 33))]
     x, y, first, second, output, work = numbers
+    third = work if data[0] == WRITE_PHASED else 0
     middle = 33 + first
-    assert len(data) == middle + second
-    return Case(data[0], x, y, data[33:middle], data[middle:], output, work)
+    last = middle + second
+    assert len(data) == last + third
+    return Case(data[0], x, y, data[33:middle], data[middle:last], output, work - third, data[last:])
 
 
 class Form(unittest.TestCase):
@@ -41,6 +44,10 @@ class Form(unittest.TestCase):
             Case(7, first=A, second=b"\2", work=5):
                 "0 0 f " + A[:20].hex() + "30" + A[21:].hex() + " w 0000000000",
             Case(7, first=A, second=b"\x08", work=5): "21 0 f " + A.hex() + " w 5a5a5a5a5a",
+            Case(8, x=1, first=A, output=6, work=7): "0 0 o 0000000000a5 w 00000000005a5a",
+            Case(8, x=3, first=A, output=5, work=5): "11 0 o a5a5a5a5a5 w 5a5a5a5a5a",
+            Case(9, first=bytes([0, 1, 2, 3, 0]), output=5, third=bytes([0, 2, 0, 0, 0])): "0 0 4 o e4000001a5",
+            Case(9, x=2, first=b"\1", second=b"\0", output=4, third=b"\3"): "22 0 0 o a5a5a5a5",
             Case(23, x=4, first=A, output=6, work=7):
                 "0 0 s 0 0 o 0001020300a5 s 0 0 o 0002020301a5 s 0 0 o 0000030000a5 s 11 0 o 0000030000a5"
                 " w 00000300005a5a",
@@ -60,16 +67,17 @@ class Form(unittest.TestCase):
     def test_input(self):
         rng = random.Random(9)
         for _ in range(300):
-            case = rng.choice([random_case, random_case, random_row_case])(rng)
+            case = rng.choice([random_case, random_case, random_row_case, random_phase_case])(rng)
             self.assertEqual(taken_apart(probe_cases.input_bytes(case)), case)
             used = {1: "", 2: "work", 3: "x output work", 4: "x y work", 5: "x",
-                    6: "x y second output", 7: "second work", 23: "x second output work"}[case.call].split()
-            for name in ("x", "y", "second", "output", "work"):
+                    6: "x y second output", 7: "second work", 8: "x output work", 9: "x y second output third",
+                    23: "x second output work"}[case.call].split()
+            for name in ("x", "y", "second", "output", "work", "third"):
                 if name not in used:
                     self.assertFalse(getattr(case, name), case)
 
     def test_same_seed_same_cases(self):
-        for any_case in (random_case, random_row_case):
+        for any_case in (random_case, random_row_case, random_phase_case):
             one, other = ([any_case(rng) for _ in range(30)] for rng in map(random.Random, (4, 4)))
             self.assertEqual(one, other)
 

@@ -8,7 +8,7 @@ import pgen_header
 import pgen_reference as reference
 from compare import COMMITTED
 from pgen_generate import random_file
-from pgen_header import LEANING_KINDS
+from pgen_header import leans
 from pgen_parts import join_file
 from pgen_record_damage import RECORD_FAULTS
 from pgen_row_cases import GREATEST_START, GREATEST_STEPS, row_cases, with_leaning_ones
@@ -113,7 +113,7 @@ class States(unittest.TestCase):
         self.unchanged(wide._replace(variant=65536), file, 8, 131100, b"\xa5", b"\2")
         later = wide._replace(variant=65538, start=131105)
         self.assertEqual(next_row(wide, file, b"\xa5", b"\2"), (0, 0, later, b"\2", b"\2"))
-        for its_type in (5, 8, 16, 32, 64, 128, 255):
+        for its_type in (5, 8, 21, 24, 32, 48, 64, 128, 255):
             self.unchanged(wide, file[:131101] + bytes([its_type]) + file[131102:], 8, 131101)
 
     def test_ends(self):
@@ -209,7 +209,7 @@ class Law(unittest.TestCase):
             wanted = reference.read(file, variant, output, WORK * header.N)[:3]
             number, place, state, output, work = next_row(state, file, output, work)
             self.assertEqual((number, place, output), wanted)
-            if its_type not in LEANING_KINDS:
+            if not leans(its_type):
                 anchor = (number, place), output[:header.N] if number == 0 else bytes(header.N)
             self.assertEqual(state[4:], (variant + 1, header.starts[variant + 1], *anchor[0]))
             self.assertEqual(work, anchor[1] + WORK)

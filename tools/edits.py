@@ -42,6 +42,14 @@ def need(function, goal):
         return f"`{function}`: a loop's invariant"
     if re.match(r"\(borrow\.[\w.]*\.k-(field-)?op2\b", goal):
         return f"`{function}`: that a sum or a difference fits"
+    if re.match(r"Prim\.Native\.Nat\._[≤<]_ ", goal):
+        return f"`{function}`: a bound that a call asks for"
+    asked = re.match(r"borrow\.Fn\.Claims\.AllOf \(\(borrow\.Fn\.Read\.read-at \(Rattle·[\w·.]+?\.(\w+)\.Reads\b", goal)
+    if asked:
+        return f"`{function}`: what `{asked.group(1)}` asks for"
+    held = re.match(r"Rattle·[\w·]+\.specs\.\w+\.([A-Z]\w+)\b", goal)
+    if held:
+        return f"`{function}`: that `{held.group(1)}` holds, which a call asks for"
     if re.match(r"borrow\.Rule\.Slice\.", goal):
         return f"`{function}`: that what it takes of a slice is there"
     of = re.match(r"\(?([\w·.-]*?)(?:\.Reads)?\.(Post|Asked)\b", goal)

@@ -135,12 +135,18 @@ def promises(sources, rows, shown):
             yield from ((name, path) for path in laws)
 
 
+def calls(sources):
+    """The public calls: what a caller writes, the file where the call stands, and its name there. A crate may have it in a module, also without saying so."""
+    listed = sources.text(sources.root / "crates" / "pgen" / "src" / "lib.rt")
+    for crate, name, alias in re.findall(r"^pub use (\w+)::(?:\w+::)*(\w+)(?: as (\w+))?;$", listed, re.M):
+        files = sorted((sources.root / "crates" / crate / "src").glob("*.rt"))
+        yield alias or name, next(path for path in files if re.search(rf"(?m)^pub fn {name}\b", sources.text(path))), name
+
+
 def contracts(sources):
     """The public calls: what a caller writes, the file, and its contract with the comment above it."""
-    listed = sources.text(sources.root / "crates" / "pgen" / "src" / "lib.rt")
-    for crate, name, alias in re.findall(r"^pub use (\w+)::(\w+)(?: as (\w+))?;$", listed, re.M):
-        path = sources.root / "crates" / crate / "src" / "lib.rt"
-        yield alias or name, path, re.search(rf"(?ms)((?:^//[^\n]*\n)*^pub fn {name}\b.*?)^{{$", sources.text(path)).group(1).rstrip()
+    for call, path, name in calls(sources):
+        yield call, path, re.search(rf"(?ms)((?:^//[^\n]*\n)*^pub fn {name}\b.*?)^{{$", sources.text(path)).group(1).rstrip()
 
 
 def entry(sources, name, path, text):

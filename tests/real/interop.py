@@ -1,9 +1,10 @@
 """Repeats with the real plink2 all that docs/INTEROP.md says of it and of us. It is not part of the tests.
 
-    python3 tests/real/interop.py [--keep FOLDER] [--plink2 PROGRAM]
+    python3 tests/real/interop.py [--keep FOLDER] [--plink2 PROGRAM] [--independent]
 
-It needs plink2 on the PATH and our programs built (rt check). Each line is one thing that was looked at, under the page's number of the fact; one
-that begins with FAILED was not as the page says. With --keep the files stay in FOLDER, each with its .pvar and .psam, to be tried by hand.
+It needs plink2 on the PATH and our programs built (rt check); with --independent the independent program of the tests answers in place of ours.
+Each line is one thing that was looked at, under the page's number of the fact; one that begins with FAILED was not as the page says. With --keep
+the files stay in FOLDER, each with its .pvar and .psam, to be tried by hand.
 """
 
 import argparse
@@ -12,8 +13,9 @@ import subprocess
 import sys
 import tempfile
 
+import interop_phases
 from interop_faults import AS_EXPORTED, FAULTS, OTHER
-from interop_page import Page, counted, file_of, listed, our_check, our_flip, our_record, our_rows, run
+from interop_page import Ours, Page, counted, file_of, listed, our_check, our_flip, our_listing, our_record, our_rows
 from compare import ROOT
 from make_real import calls_of, rows_of
 from pgen_header import read_header
@@ -135,17 +137,7 @@ def counted_flips(page):
 
 
 def tracks(page):
-    """5 and 6: phases, further alleles, dosages."""
-    phases = "0|1 1|0 1|0 0|1 0|1 1|0 0|1 0|1".split()
-    calls = [["0|0"] * 4 + phases + ["1|1"] * 4]
-    file = page.from_calls("phased", calls)
-    page.see(5, "all phased: form, type, record, our check", (hex(file[11]), hex(file[20]), file[22:].hex(), our_check(file)),
-             ("0x44", "0x10", "005555aa4c00", "8 20"))
-    calls[0][5] = "0/1"
-    file = page.from_calls("part_phased", calls)
-    page.see(5, "one call unphased: record, our check", (file[22:].hex(), our_check(file)), ("005555aafb0112", "8 20"))
-    file = page.made("unphased", "--pfile", "phased", how=["erase-phase"])
-    page.see(5, "after erase-phase: our row", our_rows(file)[0], "0" * 4 + "1" * 8 + "2" * 4)
+    """6: further alleles, dosages."""
     file = page.from_calls("alleles", [["0/0", "0/1", "1/2", "2/2"] * 4], alts="C,G")
     page.see(6, "three alleles: form, type, our check", (hex(file[11]), hex(file[20]), our_check(file)), ("0x40", "0x8", "8 20"))
     file = page.from_calls("first_alleles", [["0/0", "0/1", "1/1", "./."] * 4], alts="C,G")
@@ -234,12 +226,12 @@ def limits(page):
     """10: what is too large, and other files."""
     row = [["0/0"] * 65537]
     file = page.from_calls("n65537", row)
-    page.see(10, "N = 65,537: plink2 reads it; our listing", (page.rows("n65537") == ["0" * 65537], run("pgenlist", file).decode()), (True, "refused 4 7\n"))
+    page.see(10, "N = 65,537: plink2 reads it; our listing", (page.rows("n65537") == ["0" * 65537], our_listing(file)), (True, "refused 4 7\n"))
     page.plink2("--dummy", 90, 300, "0.05", "--seed", 1, "--make-bed", "--out", "bed")
-    page.see(10, ".bed file: our listing", run("pgenlist", (page.folder / "bed.bed").read_bytes()).decode(), "refused 3 2\n")
+    page.see(10, ".bed file: our listing", our_listing((page.folder / "bed.bed").read_bytes()), "refused 3 2\n")
     file = page.made("large", "--dummy", 90, 5000, "0.05", "--seed", 1)
     page.see(10, "--dummy 90 5000: our check, over 65,536 bytes, our listing",
-             (our_check(file), len(file) > 65536, run("pgenlist", file).decode()), ("0 0", True, "too large\n"))
+             (our_check(file), len(file) > 65536, our_listing(file)), ("0 0", True, "too large\n"))
 
 
 def main():
@@ -247,11 +239,13 @@ def main():
     parser = argparse.ArgumentParser(description=__doc__.splitlines()[0])
     parser.add_argument("--keep", help="a folder for the files")
     parser.add_argument("--plink2", default="plink2", help="the program")
+    parser.add_argument("--independent", action="store_true", help="the independent program's replies in place of ours")
     words = parser.parse_args()
+    Ours.independent = words.independent
     with tempfile.TemporaryDirectory() as scratch:
         page = Page(words.keep or scratch, words.plink2)
         print(subprocess.run([words.plink2, "--version"], capture_output=True, text=True, check=True).stdout.strip())
-        for fact in (agreement, number_width, long_lists, counted_flips, tracks, strictness, forms, turned_references, limits):
+        for fact in (agreement, number_width, long_lists, counted_flips, tracks, strictness, forms, turned_references, limits, *interop_phases.FACTS):
             fact(page)
     print(f"{page.passed} passed, {page.failed} failed")
     return 1 if page.failed else 0

@@ -8,13 +8,21 @@ HERE = Path(__file__).resolve().parent
 sys.path.insert(0, str(HERE.parent))
 
 from compare import run  # noqa: E402
-from make_real import exported, vcf_of  # noqa: E402
-from pgen_cases import FLIP, READ, WHOLE_FILE, WRITE, Case  # noqa: E402
+from make_real import calls_in, exported, phases_of, vcf_of  # noqa: E402
+from pgen_cases import FLIP, PHASES, READ, WHOLE_FILE, WRITE, WRITE_PHASED, Case  # noqa: E402
 from pgen_parts import FileParts, ListParts, RecordParts, join_file  # noqa: E402
-from probe_cases import input_bytes  # noqa: E402
+from pgen_reference import listing  # noqa: E402
+from probe_cases import input_bytes, line_of, reply_to  # noqa: E402
 
 CRASHED = "crashes"
 REFUSES = "refuses"
+ADD_SAMPLE = '/^##/ {print; next} /^#/ {print $0, name; next} {print $0, "0/1"}'  # the page's words for awk
+
+
+class Ours:
+    """Whose replies are ours: those of our built programs, or of the independent program in their place."""
+
+    independent = False
 
 
 def samples_of(file):
@@ -22,9 +30,21 @@ def samples_of(file):
     return int.from_bytes(file[7:11], "little")
 
 
+def probe_lines(cases):
+    """The probe's line for each case."""
+    if Ours.independent:
+        return [line_of(*reply_to(case)) for case in cases]
+    return run("probe", b"".join(map(input_bytes, cases))).decode().splitlines()
+
+
 def probe(case):
     """The probe's line for a case, in parts."""
-    return run("probe", input_bytes(case)).decode().split()
+    return probe_lines([case])[0].split()
+
+
+def our_listing(file):
+    """What the listing program prints."""
+    return listing(file) if Ours.independent else run("pgenlist", file).decode()
 
 
 def our_check(file):
@@ -38,16 +58,26 @@ def row_of(line):
     return parts[3][1::2] if parts[0] == "0" else " ".join(parts[:2])
 
 
-def our_rows(file):
+def our_rows(file, call=READ):
     """All variants' categories, each read alone."""
     N, M = samples_of(file), int.from_bytes(file[3:7], "little")
-    data = b"".join(input_bytes(Case(READ, variant, first=file, output=N, work=N)) for variant in range(M))
-    return list(map(row_of, run("probe", data).decode().splitlines()))
+    return list(map(row_of, probe_lines(Case(call, variant, first=file, output=N, work=N) for variant in range(M))))
+
+
+def our_phases(file):
+    """All variants' phases, each read alone: 0 unphased, 1 unswapped, 2 swapped."""
+    return our_rows(file, PHASES)
 
 
 def our_record(row, kind, code=0, anchor=b""):
     """The bytes of a record that our writer forms."""
     reply = probe(Case(WRITE, kind, code, bytes(map(int, row)), bytes(map(int, anchor)), 131072))
+    return bytes.fromhex(reply[4])[:int(reply[2])]
+
+
+def our_phased_record(row, phases, kind, code=0, anchor=b""):
+    """The bytes of a record with its phase track that our writer forms."""
+    reply = probe(Case(WRITE_PHASED, kind, code, *(bytes(map(int, part)) for part in (row, anchor)), 131072, third=bytes(map(int, phases))))
     return bytes.fromhex(reply[4])[:int(reply[2])]
 
 
@@ -125,6 +155,25 @@ class Page:
         if status:
             return CRASHED if status < 0 or status > 128 else REFUSES
         return exported(self.folder / f"{name}.traw", self.folder / f"{name}.pvar").split()
+
+    def phases(self, name):
+        """The phases in plink2's own words, a row for each variant: 1 for 0|1, 2 for 1|0, 0 for every other call; or that it refuses."""
+        if self.plink2("--pfile", name, "--export", "vcf", "--out", f"{name}.words"):
+            return REFUSES
+        return phases_of(calls_in(self.folder / f"{name}.words.vcf"))
+
+    def with_sample(self, name, later, sample="UNPHASED"):
+        """A set with a sample added that is heterozygous and unphased in every variant, made by plink2: its bytes."""
+        assert self.plink2("--pfile", name, "--export", "vcf", "--out", name) == 0, name
+        with open(self.folder / f"{later}.vcf", "wb") as out:
+            subprocess.run(["awk", "-v", "OFS=\\t", "-v", f"name={sample}", ADD_SAMPLE, f"{name}.vcf"], cwd=self.folder, stdout=out, check=True)
+        return self.made(later, "--vcf", f"{later}.vcf")
+
+    def phases_said(self, name):
+        """What plink2 --pgen-info says of a set's phases."""
+        assert self.plink2("--pfile", name, "--pgen-info", "--out", f"{name}.info") == 0, name
+        lines = (self.folder / f"{name}.info.log").read_text().splitlines()
+        return next(line.strip() for line in lines if line.endswith(("hardcalls present", "explicitly phased")))
 
     def report(self, name, word, ending, source="--pfile"):
         """The columns of a report of plink2, a list for each variant; or that it refuses or crashes."""

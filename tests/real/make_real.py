@@ -4,9 +4,11 @@
 
 For each set it writes made-up genotypes as a VCF file, has plink2 turn them into a PGEN file and
 export them in its own words, and keeps NAME.pgen and NAME.categories (a line of digits for each
-variant: 0 homozygous reference, 1 heterozygous, 2 double alternate, 3 missing). Of a file that
-document 01 refuses it keeps NAME.refused instead: the number and the place, worked out by hand. It
-needs plink2 on the PATH; the tests need only what it made.
+variant: 0 homozygous reference, 1 heterozygous, 2 double alternate, 3 missing), of a set with phases
+also NAME.phases (1 for 0|1, 2 for 1|0, 0 for every other call), and NAME.phases_read where document 02
+reads others. Of a file that documents 01 and 02 refuse it keeps NAME.refused instead: the number and
+the place. What is read otherwise, and what is refused, was worked out by hand. It needs plink2 on the
+PATH; the tests need only what it made.
 """
 
 import random
@@ -33,12 +35,23 @@ SETS = [
 ]
 SPARSE = {3: "0/1", -1: "./."}
 PHASED = {i: call for i, call in enumerate("0|1 1|0 1|0 0|1 0|1 1|0 0|1 0|1".split())}
-# name, samples, calls that are not 0/0, other alleles, words for --vcf, refusal and place by document 01
+# name, samples, variants, the share of heterozygous calls without a phase, whether each row is to have one, whether a sample is added that has none
+PHASED_SETS = [
+    ("part_phased", 90, 48, 0.2, True, False),
+    ("sample_added", 33, 24, 0, False, True),
+]
+# 40 samples; every heterozygous call phased, eight of them in each row, the first seven of those unswapped
+OTHERWISE = [["0|0", "1|1"] * 8 + ["0|1"] * 7 + ["1|0"] + ["0|0", "1|1"] * 8]
+OTHERWISE += [["0|1"] + OTHERWISE[0][1:16] + ["0|0"] + OTHERWISE[0][17:]]
+# by document 02 the bit that plink2 means for the eighth call is the first call's
+OTHERWISE_READ = "0" * 16 + "21111111" + "0" * 16 + "\n" + "2" + "0" * 16 + "1111111" + "0" * 16 + "\n"
+# name, samples, calls that are not 0/0, other alleles, words for --vcf, refusal and place by documents 01 and 02
 REFUSED = [
     ("n256_list", 256, SPARSE, "C", [], "17 24"),
     ("n65536_list", 65536, SPARSE, "C", [], "17 26"),
     ("n65537", 65537, SPARSE, "C", [], "4 7"),
-    ("phased", 16, PHASED, "C", [], "8 20"),
+    ("phased", 16, PHASED, "C", [], "18 26"),
+    ("phased_short", 16, {i: "0|1" for i in range(6)}, "C", [], "12 27"),
     ("multiallelic", 16, {1: "0/1", 2: "1/2", 3: "2/2"}, "C,G", [], "8 20"),
     ("dosage", 16, {1: "0/1:0.9", 2: "1/1:1.8"}, "C", ["dosage=DS"], "8 20"),
 ]
@@ -89,6 +102,31 @@ def calls_of(rows):
     return [[CALLS[c] for c in row] for row in rows]
 
 
+def phased_calls(rng, rows, unphased):
+    """Categories as calls, the heterozygous ones phased either way but for a share."""
+    calls = ["0|0", "0|1", "1|1", ".|."]
+    return [[rng.choice(["0|1", "1|0"]) if c == 1 and rng.random() >= unphased else "0/1" if c == 1 else calls[c] for c in row] for row in rows]
+
+
+def with_one_unphased(calls):
+    """The same calls with the first heterozygous one of each row unphased."""
+    later = []
+    for row in calls:
+        first = next((sample for sample, call in enumerate(row) if call in ("0|1", "1|0")), None)
+        later.append([call.replace("|", "/") if sample == first else call for sample, call in enumerate(row)])
+    return later
+
+
+def phases_of(calls):
+    """The phases of calls, a line of digits for each row: 1 for 0|1, 2 for 1|0, 0 for every other call."""
+    return ["".join({"0|1": "1", "1|0": "2"}.get(call, "0") for call in row) for row in calls]
+
+
+def calls_in(vcf):
+    """The calls in a VCF file, a list for each variant."""
+    return [line.split("\t")[9:] for line in vcf.read_text().splitlines() if not line.startswith("#")]
+
+
 def exported(traw, pvar):
     """The categories that plink2 exported, a line of digits for each variant: how often each sample has the alternate allele."""
     alternate = dict(line.split("\t")[2:5:2] for line in pvar.read_text().splitlines() if not line.startswith("#"))
@@ -127,7 +165,7 @@ def make(folder, name, samples, variants, words, way):
 
 
 def make_refused(folder, name, samples, calls, alts, words, refusal):
-    """One file of one variant that document 01 refuses."""
+    """One file of one variant that documents 01 and 02 refuse."""
     form = "GT:DS" if words else "GT"
     row = ["0/0:0.1" if words else "0/0"] * samples
     for sample, call in calls.items():
@@ -140,9 +178,34 @@ def make_refused(folder, name, samples, calls, alts, words, refusal):
         (folder / f"{name}.refused").write_text(refusal + "\n")
 
 
+def make_phased(folder, name, calls):
+    """One set with phases: its categories and its phases are plink2's own words."""
+    with tempfile.TemporaryDirectory() as scratch:
+        at = Path(scratch)
+        (at / "in.vcf").write_text(vcf_of(calls, len(calls[0])))
+        plink2("--vcf", at / "in.vcf", "--make-pgen", "--out", at / "made")
+        plink2("--pfile", at / "made", "--export", "Av", "vcf", "--out", at / "made")
+        (folder / f"{name}.pgen").write_bytes((at / "made.pgen").read_bytes())
+        (folder / f"{name}.categories").write_text(exported(at / "made.traw", at / "made.pvar"))
+        (folder / f"{name}.phases").write_text("".join(row + "\n" for row in phases_of(calls_in(at / "made.vcf"))))
+
+
+def phased_set(name, samples, variants, unphased, one_in_each_row, sample_added):
+    """The calls of a set with phases."""
+    rng = random.Random(name)
+    calls = phased_calls(rng, rows_of(rng, samples, variants), unphased)
+    if one_in_each_row:
+        calls = with_one_unphased(calls)
+    return [row + ["0/1"] for row in calls] if sample_added else calls
+
+
 if __name__ == "__main__":
     where = Path(sys.argv[1]) if len(sys.argv) > 1 else HERE
     for each in SETS:
         make(where, *each)
+    for each in PHASED_SETS:
+        make_phased(where, each[0], phased_set(*each))
+    make_phased(where, "phased_otherwise", OTHERWISE)
+    (where / "phased_otherwise.phases_read").write_text(OTHERWISE_READ)
     for each in REFUSED:
         make_refused(where, *each)

@@ -1,10 +1,11 @@
 -- What a flip replies and leaves, by what the opening, the set and the records were found to be.
 -- Assumes nothing.
-use mathlib.Core.Path.{_≡_, refl, sym, ap, _∙_, subst}
+use mathlib.Core.Path.{_≡_, refl, sym, ap, ap₂, _∙_, subst}
 use Prim.Native.Nat.{ℕ, _+_, _/_, _%_, _^_, _≤_, _<_}
 use mathlib.Core.Bool.{Bool, true, false, _&&_}
-use mathlib.Core.List.{List, []}
-use lib.ListN.{length, getD}
+use mathlib.Core.List.{List, [], _++_}
+use lib.ListN.{length, getD, drop, replicate, length-replicate}
+use lib.Seq.{drop-at}
 use lib.Dec.{eqb, leb, lit<}
 use mir.Syntax.{w64}
 use mir.Val.{Fits}
@@ -35,10 +36,14 @@ use Rattle.call_open.specs.Open.{Opening, Open, Shut, open-out}
 use Rattle.call_open.proofs.Callers.{ready, shut, open-samples, open-variants}
 use Rattle.read_file.specs.Rows.{HasRow, RecordsChecked}
 use Rattle.read_file.proofs.Replies.{WasRead, Clears, checked-row, checked-accepted, checked-refused}
-use Rattle.flip_file.specs.Accepted as whole
+use Rattle.flip_phase.specs.Accepted as whole
 
 abbrev K : ℕ
 K = variants-to-a-block
+
+-- a row emptied again
+emptied-twice : (n : ℕ) (row : List ℕ) → emptied n (emptied n row) ≡ emptied n row
+emptied-twice n row = ap (_++_ (replicate n 0)) (drop-at (replicate n 0) (drop n row) n (length-replicate n 0))
 
 -- ---- before a record is looked at
 
@@ -109,11 +114,13 @@ module _ (file set work : List ℕ) (f : Fields) (r : HeaderReply) (e : Opening 
           rw left-work (simp (o .accepted, holds, room, clear, x .is, x .clears))
 
       -- accepted
-      pub flipped-call : got ≡ Accepted → (file₁ : List ℕ) → file₁ ≡ flip-bytes K (member set) file → flip-left Accepted file₁ work₁ ≡ flip-call K file set work
+      pub flipped-call : got ≡ Accepted → (file₁ work₂ : List ℕ) → file₁ ≡ flip-bytes K (member set) file → work₂ ≡ emptied (f .samples) work₁
+          → flip-left Accepted file₁ work₂ ≡ flip-call K file set work
       unfolding flip-call
-      flipped-call s file₁ b =
+      flipped-call s file₁ work₂ b k =
+          let still : work₂ ≡ emptied (o .layout .samples) work = k ∙ ap₂ emptied samples left-work ∙ emptied-twice (o .layout .samples) work in
           let x : WasRead (List Body) (read-all K (o .layout)) = subst (λ (l : Layout). WasRead (List Body) (read-all K l)) same (checked-accepted d s) in
-          rw (b, left-work) (simp (o .accepted, holds, room, clear, x .is))
+          rw (b, still) (simp (o .accepted, holds, room, clear, x .is))
 
 -- ---- what else a need asks
 
@@ -152,5 +159,10 @@ module _ (file : List ℕ) (lent : ℕ) (f : Fields) (r : HeaderReply) (e : Open
       same-layout {w} h =
           stored-one K file file (found .layout) (layout-of-file w) (lit< tt) (found .stored)
           (subst (λ (bs : List ℕ). Stored K bs bs (layout-of-file w)) (sym (h .written)) (stored-layout K (layout-of-file w) (lit< tt) (h .obeys .layout)))
+
+  -- and the work area still has room for a row
+  pub flip-ready : (work : List ℕ) → lent ≡ length work → (got : Reply) (work₁ : List ℕ) → RecordsChecked file file f work got work₁ → got ≡ Accepted
+      → length work₁ ≡ length work → whole.Accepted K file f × (f .samples ≤ length work₁)
+  flip-ready work h got work₁ d s e = (whole-accepted work got work₁ d s, omega (arith, found .room))
 
 pub ruleset flip-laws = (flip-shut, few, wrong-set, bits-past, has-row, flip-records-refused, whole-accepted, flipped-call)

@@ -38,7 +38,7 @@ pub fn flip(file: &mut [u8], set: &[u8], work: &mut [u8]) -> Reply
             match got {
                 Reply::Refused(why) => Reply::Refused(why),
                 Reply::Accepted => {
-                    flip_accepted(file, f, set);
+                    flip_accepted(file, f, set, work);
                     Reply::Accepted
                 }
             }

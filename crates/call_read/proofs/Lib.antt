@@ -2,6 +2,7 @@ pub mod CheckLaws
 pub mod RowLaws
 pub mod OpenRowLaws
 pub mod ReadLaws
+pub mod PhasesLaws
 pub mod LookupLaws
 pub mod ViewLaws
 pub mod Unique

@@ -1,4 +1,4 @@
--- What a read replies and leaves, by what its opening found.
+-- What a read replies and leaves, by what its opening found. What is read of the variant's body may be its categories or its phases.
 -- Assumes nothing.
 use mathlib.Core.Path.{_≡_, sym, ap, _∙_}
 use Prim.Native.Nat.{ℕ, min, _≤_}
@@ -12,33 +12,41 @@ use Rattle.format.specs.declared.Refusal.{Refusal}
 use Rattle.format.specs.declared.HeaderReply.{HeaderReply}
 use Rattle.format.specs.declared.HeaderReply.the-variants as header
 use Rattle.format.specs.declared.Reply.the-variants.{Accepted, Refused}
-use Rattle.format.specs.Base.{Out}
+use Rattle.format.specs.Base.{Out, bind}
 use Rattle.format.specs.Limits.{variants-to-a-block}
+use Rattle.format.specs.Body.{Body, body-categories}
 use Rattle.format.specs.Layout.{Layout}
-use Rattle.format.specs.File.{read-variant}
-use Rattle.format.specs.Reply.{Read, verdict, refusal-of, given, work-after, samples-of, holds-row, read-left, read-call}
+use Rattle.format.specs.File.{variant-as}
+use Rattle.format.specs.Reply.{Read, verdict, refusal-of, given, work-after, samples-of, holds-row, read-left, read-as, read-call}
+use Rattle.call_open.specs.Open.{open-at-out}
 use Rattle.call_open.proofs.Callers.{through-at, holds-both}
 use Rattle.call_read.specs.OpenRow.{open-row-out, RowOpen, OpeningRow}
 use Rattle.call_read.proofs.OpenRowLaws.{shut-row, ready-row}
 
-abbrev read-from : ℕ → List ℕ → List ℕ → Out (List ℕ) → Read
+abbrev pub read-from : ℕ → List ℕ → List ℕ → Out (List ℕ) → Read
 read-from N output work m = record {
   verdict = verdict m;
   output = given (λ (row : List ℕ). row ++ drop N output) output m;
   work = work-after N (refusal-of m) work;
 }
 
+-- the reply, by what of the variant was read: its opening has room in both buffers
+pub reads-as : (what : ℕ → List ℕ → Body → List ℕ) (file : List ℕ) (v : FileVariant) (output work : List ℕ) (lent : ℕ)
+    → lent ≡ min (length output) (length work)
+    → (m : Out (List ℕ)) → bind (open-at-out variants-to-a-block file v lent) (λ l left. variant-as what variants-to-a-block l v) ≡ m
+    → read-from (samples-of variants-to-a-block file) output work m ≡ read-as what variants-to-a-block file v output work
+reads-as what file v output work lent both m s =
+    ap (read-from (samples-of variants-to-a-block file) output work)
+    (sym (through-at file lent (λ (l : Layout). holds-row output l && holds-row work l)
+    (λ l. rw both (holds-both (l .samples) (length output) (length work))) v (λ (l : Layout). variant-as what variants-to-a-block l v)
+    ∙ s))
+
 module _ (file : List ℕ) (v : FileVariant) (output work : List ℕ) (lent : ℕ) (both : lent ≡ min (length output) (length work))
     (r : HeaderReply) (work₁ : List ℕ) (e : OpeningRow file v lent work work₁ r) where
-  -- the reply, by what was opened
   reads : (m : Out (List ℕ)) → open-row-out variants-to-a-block file v lent ≡ m
       → read-from (samples-of variants-to-a-block file) output work m ≡ read-call variants-to-a-block file v output work
   unfolding read-call
-  reads m s =
-      ap (read-from (samples-of variants-to-a-block file) output work)
-      (sym (through-at file lent (λ (l : Layout). holds-row output l && holds-row work l)
-      (λ l. rw both (holds-both (l .samples) (length output) (length work))) v (λ (l : Layout). read-variant variants-to-a-block l v)
-      ∙ s))
+  reads m s = reads-as body-categories file v output work lent both m s
 
   -- 1 to 18
   pub read-shut : (why : Refusal) → r ≡ header.Refused why → read-left (Refused why) output work₁ ≡ read-call variants-to-a-block file v output work

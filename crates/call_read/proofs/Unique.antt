@@ -13,6 +13,8 @@ use Rattle.call_read.proofs.check as check
 use Rattle.call_read.proofs.check.Reads as check-contract
 use Rattle.call_read.proofs.read as read
 use Rattle.call_read.proofs.read.Reads as read-contract
+use Rattle.call_read.proofs.read_phases as read-phases
+use Rattle.call_read.proofs.read_phases.Reads as read-phases-contract
 use Rattle.call_read.proofs.lookup as lookup
 use Rattle.call_read.proofs.lookup.Reads as lookup-contract
 use Rattle.call_read.proofs.view as view
@@ -28,6 +30,11 @@ pub read-unique : (κs : Lfts 3) (lent : ArgsD read.signature κs) (r s : Reply)
     → read-contract.Post κs lent r left → read-contract.Post κs lent s left₁
     → (r ≡ s) × (now (left .1 .1 .0) ≡ now (left₁ .1 .1 .0)) × (now (left .1 .1 .1 .0) ≡ now (left₁ .1 .1 .1 .0))
 read-unique κs lent r s left left₁ p q = same-read r s _ _ _ _ (p ∙ sym q)
+
+pub read-phases-unique : (κs : Lfts 3) (lent : ArgsD read-phases.signature κs) (r s : Reply) (left left₁ : AtExit read-phases.ended κs)
+    → read-phases-contract.Post κs lent r left → read-phases-contract.Post κs lent s left₁
+    → (r ≡ s) × (now (left .1 .1 .0) ≡ now (left₁ .1 .1 .0)) × (now (left .1 .1 .1 .0) ≡ now (left₁ .1 .1 .1 .0))
+read-phases-unique κs lent r s left left₁ p q = same-read r s _ _ _ _ (p ∙ sym q)
 
 -- the answers and the work areas
 pub lookup-unique : (κs : Lfts 2) (lent : ArgsD lookup.signature κs) (r s : LookupReply) (left left₁ : AtExit lookup.ended κs)

@@ -1,9 +1,10 @@
-// The calls that read: the whole-file check, a read, a lookup, the view of a record. Each opens the file before it looks at a record.
+// The calls that read: the whole-file check, a read of categories or of phases, a lookup, the view of a record. Each opens the file before it looks at a
+// record.
 ghost use mathlib.Core.Path.{_≡_};
 ghost use Prim.Native.Nat.{_≤_};
 ghost use lib.ListN.{length};
 ghost use Rattle.format.specs.Limits.{variants-to-a-block};
-ghost use Rattle.format.specs.Reply.{check-left, check-call, read-left, read-call, lookup-left, lookup-call, view-left, part-of-file, view-call};
+ghost use Rattle.format.specs.Reply.{check-left, check-call, read-left, read-call, phases-call, lookup-left, lookup-call, view-left, part-of-file, view-call};
 ghost use Rattle.call_read.specs.OpenRow.{OpeningRow};
 use base_rows::clear;
 use base_rows::copy;
@@ -69,6 +70,27 @@ pub fn read(file: &[u8], variant: FileVariant, output: &mut [u8], work: &mut [u8
             copy(work, n, output);
             clear(work, n);
             Reply::Accepted
+        }
+    }
+}
+
+// 02, Ask 1: "A new reading fills N bytes: 0 unphased, 1 unswapped, 2 swapped." The categories, which tell whose the phases are, stand in the work area.
+pub fn read_phases(file: &[u8], variant: FileVariant, output: &mut [u8], work: &mut [u8]) -> Reply
+    ensures { λ r. ⌜ read-left r (now (output .exit)) (now (work .exit))
+        ≡ phases-call variants-to-a-block (now (file .entry)) variant (now (output .entry)) (now (work .entry)) ⌝ }
+{
+    let opened = open_at(file, variant, shorter(output.len(), work.len()));
+    match opened {
+        HeaderReply::Refused(why) => Reply::Refused(why),
+        HeaderReply::Accepted(f) => {
+            let got = read_file::read_phases(file, file, f, variant, work, output);
+            match got {
+                Reply::Refused(why) => Reply::Refused(why),
+                Reply::Accepted => {
+                    clear(work, f.samples);
+                    Reply::Accepted
+                }
+            }
         }
     }
 }

@@ -134,29 +134,32 @@ pub ruleset next-record-laws = (state-refused, standing, looked-for)
 
 -- ---- where it is found
 
-module _ (rows : Rows) (index held output work : List ℕ) where
-  abbrev looked : Out Place
-  looked = next-record rows index held (length output) (length work)
-
-  all-known : Holds (λ (p : Place) (left : List ℕ). RowReady rows held p output work) looked
-  unfolding next-record record-checked record-of type-follows
-  all-known =
-      by-bind (λ (u : Unit {0}) (left : List ℕ). Passed rows (length output) (length work)) _ (state-checked rows (length output) (length work)) _
-      (all-passed rows (length output) (length work)) (λ u left q.
-      by-need _ (type-follows rows (record-of rows index .record_type)) 8 _ _ (λ t.
-      by-need _ (leb (record-of rows index .end) (length held)) 9 (length held) _ (λ e.
-      let b : BlockVariant = in-block K (rows .variant) in
-      let type : ℕ = record-of rows index .record_type in
-      let known = allowed b type (both (type-allowed b type) (not (type-leans type) || anchor-told (rows .refusal)) t .0) in
+-- `lent` is the shortest length of the buffers that are to hold a row, besides the work area's
+pub all-known : (rows : Rows) (index held : List ℕ) (lent : ℕ) (work : List ℕ)
+    → Holds (λ (p : Place) (left : List ℕ). RowReady rows held p work × (rows .fields .samples ≤ lent)) (next-record rows index held lent (length work))
+unfolding next-record record-checked record-of type-follows
+all-known rows index held lent work =
+    by-bind (λ (u : Unit {0}) (left : List ℕ). Passed rows lent (length work)) _ (state-checked rows lent (length work)) _
+    (all-passed rows lent (length work)) (λ u left q.
+    by-need _ (type-follows rows (record-of rows index .record_type)) 8 _ _ (λ t.
+    by-need _ (leb (record-of rows index .end) (length held)) 9 (length held) _ (λ e.
+    let b : BlockVariant = in-block K (rows .variant) in
+    let type : ℕ = record-of rows index .record_type in
+    let known = allowed b type (both (type-allowed b type) (not (type-leans type) || anchor-told (rows .refusal)) t .0) in (
       record {
         few-variants = omega (arith, q .standing .below, q .standing .few-variants);
         few-samples = q .standing .few-samples;
-        output-holds = q .output-holds;
         work-holds = q .work-holds;
         rises = omega arith;
         inside = leb-true (record-of rows index .end) (length held) e;
-        kind-known = known .1;
-      })))
+        kind-known = known .2;
+      },
+      q .output-holds,
+    ))))
+
+module _ (rows : Rows) (index held output work : List ℕ) where
+  abbrev looked : Out Place
+  looked = next-record rows index held (length output) (length work)
 
   pub not-found : (why : Refusal) → refused why ≡ looked → row-left (answered rows (Refused why)) output work ≡ next-row-in rows index held output work
   unfolding next-row-in
@@ -172,8 +175,16 @@ module _ (rows : Rows) (index held output work : List ℕ) where
       at-place : ok p [] ≡ looked
       at-place = rw q at told
 
-      pub ready : RowReady rows held p output work
-      ready = subst (Holds (λ (p : Place) (left : List ℕ). RowReady rows held p output work)) (sym at-place) all-known
+      known-there : RowReady rows held p work × (rows .fields .samples ≤ length output)
+      known-there =
+          subst (Holds (λ (p : Place) (left : List ℕ). RowReady rows held p work × (rows .fields .samples ≤ length output))) (sym at-place)
+          (all-known rows index held (length output) work)
+
+      pub ready : RowReady rows held p work
+      ready = known-there .0
+
+      pub output-holds : rows .fields .samples ≤ length output
+      output-holds = known-there .1
 
       -- the two ways on
       module _ (t : Bool) (k : t ≡ type-leans (p .record_type)) (step : RowStep) (output₁ work₁ : List ℕ) where
@@ -187,7 +198,7 @@ module _ (rows : Rows) (index held output work : List ℕ) where
         unfolding next-row-in
         stepped-alone s d = rw (← at-place, ← k, s) d
 
-pub ruleset next-laws = (ready, holds, refused-there, stepped-leaning, stepped-alone)
+pub ruleset next-laws = (ready, output-holds, holds, refused-there, stepped-leaning, stepped-alone)
 
 -- ---- of a file in one piece
 

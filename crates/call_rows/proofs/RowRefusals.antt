@@ -48,10 +48,10 @@ abbrev pub next-row-numbers : List ℕ
 next-row-numbers = 4 ∷ 8 ∷ 9 ∷ 10 ∷ 11 ∷ record-numbers
 
 -- what a refused step leaves: its number is one of them, the output stays, and where nothing was read the state and the work area stay too
-record Kept (rows : Rows) (output work : List ℕ) (left : Left) : Type 0 where
-  numbered : Among next-row-numbers (left .verdict .refusal .number)
-  output-stays : left .output ≡ output
-  stays : keeps-work (left .verdict .refusal .number) ≡ true → (left .rows ≡ rows) × (left .work ≡ work)
+pub record Kept (rows : Rows) (output work : List ℕ) (left : Left) : Type 0 where
+  pub numbered : Among next-row-numbers (left .verdict .refusal .number)
+  pub output-stays : left .output ≡ output
+  pub stays : keeps-work (left .verdict .refusal .number) ≡ true → (left .rows ≡ rows) × (left .work ≡ work)
 
 -- a refusal of what a record leaves is one of a record's
 abbrev RecordNumbered : RecordLeft → Type 0
@@ -116,7 +116,7 @@ module _ (rows : Rows) (held output work : List ℕ) (y : Bytes held) where
     placed-keeps : Keeps (pick (type-leans type) (over-anchor rows held p output work) (over-nothing rows held p output work))
     placed-keeps = by-test Keeps (type-leans type) over-anchor-keeps (λ l. alone-keeps (p .end) (read-at rows held p work) (read-numbers work))
 
-  stepped-keeps : (m : Out Place) → Refuses (Among next-row-numbers) m → Holds (λ (p : Place) (left : List ℕ). type-follows rows (p .record_type) ≡ true) m
+  pub stepped-keeps : (m : Out Place) → Refuses (Among next-row-numbers) m → Holds (λ (p : Place) (left : List ℕ). type-follows rows (p .record_type) ≡ true) m
       → Keeps (stepped rows held output work m)
   stepped-keeps (ok p left) r t = placed-keeps p t
   stepped-keeps (refused why) r t = λ e. record { numbered = r; output-stays = refl; stays = λ k. (refl, refl) }
@@ -131,14 +131,14 @@ state-numbers rows output work =
     (refuses-need (Among next-row-numbers) (ltb (rows .variant .0) (rows .fields .variants)) _ _ _ refl tt)))
 
 module _ (rows : Rows) (index held : List ℕ) (output work : ℕ) where
-  sought-numbers : Refuses (Among next-row-numbers) (next-record rows index held output work)
+  pub sought-numbers : Refuses (Among next-row-numbers) (next-record rows index held output work)
   unfolding next-record record-checked
   sought-numbers =
       refuses-then (Among next-row-numbers) (state-checked rows output work) _ (state-numbers rows output work) (λ u left.
       refuses-need (Among next-row-numbers) (type-follows rows (record-of rows index .record_type)) _ _ _ refl
       (refuses-need (Among next-row-numbers) (leb (record-of rows index .end) (length held)) _ _ _ refl tt))
 
-  sought-follows : Holds (λ (p : Place) (left : List ℕ). type-follows rows (p .record_type) ≡ true) (next-record rows index held output work)
+  pub sought-follows : Holds (λ (p : Place) (left : List ℕ). type-follows rows (p .record_type) ≡ true) (next-record rows index held output work)
   unfolding next-record record-checked
   sought-follows =
       by-bind (λ u left. Unit {0}) _ (state-checked rows output work) _ (any (state-checked rows output work)) (λ u left q.

@@ -3,28 +3,25 @@
 use mathlib.Core.Path.{_≡_, refl, sym, ap, _∙_}
 use Prim.Native.Nat.{ℕ, _+_, _≤_}
 use native.Mathlib.Numerals.{add-one}
+use mathlib.Core.Bool.{Bool, true, false}
 use mathlib.Core.List.{List, _++_}
 use lib.ListN.{length, take, drop, length-take}
 use lib.Seq.{take-at, length-take-le}
 use native.Mathlib.Omega.{arith}
+use lib.Dec.{eqb}
 use borrow.Author.Tests.{eq-eqb, ne-eqb}
 use Rattle.format.specs.declared.Refusal.{Refusal}
 use Rattle.format.specs.declared.Reply.{Reply}
 use Rattle.format.specs.declared.Reply.the-variants.{Accepted, Refused}
-use Rattle.format.specs.Base.{Out, ok, refused, refusal}
-use Rattle.format.specs.Body.{Body, read-body}
+use Rattle.format.specs.Base.{pick, Out, ok, refused, refusal}
+use Rattle.format.specs.Body.{type-leans, type-phased, Body, read-body}
 use Rattle.format.specs.Variant.{file-variant}
 use Rattle.head_places.specs.declared.Place.{Place}
 use Rattle.read_record.specs.Recorded.{replied, record-left, record-replied, recorded}
 use Rattle.read_check.specs.Checked.{body-checked}
 use Rattle.read_check.proofs.NextLaws.{row-there}
 use Rattle.call_rows.specs.declared.Rows.{Rows}
-use Rattle.call_rows.specs.Calls.{row-left, past, answered, alone, leaning, read-at, over-nothing, over-anchor, RowReady}
-
--- refused as its anchor was
-pub anchor-refused : (rows : Rows) (held : List ℕ) (p : Place) (output work : List ℕ) (next : Rows) → next ≡ past rows (p .end) (rows .refusal)
-    → (rows .refusal .number ≡ 0 → ⊥) → row-left (answered next (Refused (rows .refusal))) output work ≡ over-anchor rows held p output work
-anchor-refused rows held p output work next n r = rw (n, ne-eqb (rows .refusal .number) 0 r)
+use Rattle.call_rows.specs.Calls.{Left, row-left, past, answered, alone, leaning, read-at, leaning-checked, over-nothing, over-anchor, RowReady}
 
 -- ---- a record that leans on none
 
@@ -39,10 +36,25 @@ module _ (rows : Rows) (held : List ℕ) (p : Place) (output work : List ℕ) (n
       → row-left (answered next Accepted) output₁ work₁ ≡ over-nothing rows held p output work
   alone-accepted why z n output₁ q e = rw (n, z, e) (ap (alone rows (p .end) output) (rw q at told))
 
--- ---- one that leans: checked over the work area, then read over a copy of it
+-- ---- one that leans: checked over the work area
 
-module _ (rows : Rows) (held : List ℕ) (p : Place) (output work : List ℕ) (ready : RowReady rows held p output work) (next : Rows)
-    (n : next ≡ past rows (p .end) (rows .refusal)) where
+module _ (rows : Rows) (held : List ℕ) (p : Place) (work : List ℕ) where
+  pub checked-anchor : (rows .refusal .number ≡ 0 → ⊥) → Refused (rows .refusal) ≡ leaning-checked rows held p work
+  unfolding leaning-checked
+  checked-anchor r = rw (ne-eqb (rows .refusal .number) 0 r)
+
+  pub checked-body : rows .refusal .number ≡ 0 → (got : Reply)
+      → got ≡ body-checked (rows .fields .samples) (p .record_type) (take (p .end) held) (p .start) work → got ≡ leaning-checked rows held p work
+  unfolding leaning-checked
+  checked-body z got e = rw (eq-eqb (rows .refusal .number) 0 z) e
+
+-- a type that leans is not of a record that is phased and leans on none
+pub leans-there : (type : ℕ) → type-leans type ≡ true → type-phased type ≡ true → type-leans type ≡ true
+leans-there type l t = l
+
+-- ---- then read over a copy of it
+
+module _ (rows : Rows) (held : List ℕ) (p : Place) (output work : List ℕ) (ready : RowReady rows held p work) where
   abbrev N : ℕ
   N = rows .fields .samples
 
@@ -56,55 +68,67 @@ module _ (rows : Rows) (held : List ℕ) (p : Place) (output work : List ℕ) (r
   abbrev copied : List ℕ
   copied = take N work ++ drop N output
 
-  -- read over a copy of the row, it is read alike
-  over-copy : read-at rows held p copied ≡ record-replied N copied read
-  unfolding recorded
-  over-copy =
-      ap (λ (lent : List ℕ). record-replied N copied (read-body (length cut) N lent (p .record_type) (drop (p .start) cut)))
-      (take-at (take N work) (drop N output) N (length-take-le N work (ready .work-holds)))
+  pub same-row : take N copied ≡ take N work
+  same-row = take-at (take N work) (drop N output) N (length-take-le N work (ready .work-holds))
 
-  module _ (z : rows .refusal .number ≡ 0) (got : Reply) (told : got ≡ body-checked N (p .record_type) cut (p .start) work) where
-    checked : got ≡ replied read
-    unfolding body-checked
+  -- read over a copy of the row, it is read alike
+  pub over-copy : read-at rows held p copied ≡ record-replied N copied read
+  unfolding recorded
+  over-copy = ap (λ (lent : List ℕ). record-replied N copied (read-body (length cut) N lent (p .record_type) (drop (p .start) cut))) same-row
+
+  -- what the check says, by how the anchor was read and how the record is
+  abbrev pub checked-as : Bool → Out Body → Reply
+  checked-as b m = pick b (replied m) (Refused (rows .refusal))
+
+  abbrev left-as : Bool → Out Body → Left
+  left-as b m =
+      pick b (leaning rows (p .end) output work (record-replied N copied m))
+      (row-left (answered (past rows (p .end) (rows .refusal)) (Refused (rows .refusal))) output work)
+
+  over : over-anchor rows held p output work ≡ left-as (eqb (rows .refusal .number) 0) read
+  over = rw over-copy
+
+  module _ (next : Rows) (n : next ≡ past rows (p .end) (rows .refusal)) (got : Reply) (told : got ≡ leaning-checked rows held p work) where
+    pub checked : got ≡ checked-as (eqb (rows .refusal .number) 0) read
+    unfolding leaning-checked body-checked
     checked = told
 
-    over : over-anchor rows held p output work ≡ leaning rows (p .end) output work (record-replied N copied read)
-    over = rw (eq-eqb (rows .refusal .number) 0 z, over-copy)
-
     pub leaning-refused : (why : Refusal) → got ≡ Refused why → row-left (answered next (Refused why)) output work ≡ over-anchor rows held p output work
-    leaning-refused why q = go read checked ∙ sym over
+    leaning-refused why q = go (eqb (rows .refusal .number) 0) read checked ∙ sym over
       where
-        go : (m : Out Body) → got ≡ replied m
-            → row-left (answered next (Refused why)) output work ≡ leaning rows (p .end) output work (record-replied N copied m)
-        go (ok body left) e = absurd (let y : _≡_ {A = ℕ} 0 1 = cc in omega arith)
-        go (refused other) e = cc
+        go : (b : Bool) (m : Out Body) → got ≡ checked-as b m → row-left (answered next (Refused why)) output work ≡ left-as b m
+        go true (ok body left) e = absurd (let y : _≡_ {A = ℕ} 0 1 = cc in omega arith)
+        go true (refused other) e = cc
+        go false m e = cc
 
     pub leaning-accepted : (output₁ output₂ : List ℕ) (got₂ : Reply) → got ≡ Accepted → output₁ ≡ take N work ++ drop N output
         → record-left got₂ output₂ ≡ recorded N (p .record_type) cut (p .start) output₁
         → row-left (answered next Accepted) output₂ work ≡ over-anchor rows held p output work
-    leaning-accepted output₁ output₂ got₂ q f d = go read checked refl ∙ sym over
+    leaning-accepted output₁ output₂ got₂ q f d = go (eqb (rows .refusal .number) 0) read checked refl ∙ sym over
       where
-        go : (m : Out Body) → got ≡ replied m → read ≡ m
-            → row-left (answered next Accepted) output₂ work ≡ leaning rows (p .end) output work (record-replied N copied m)
-        go (refused other) e r = absurd (let y : _≡_ {A = ℕ} 0 1 = cc in omega arith)
-        go (ok body left) e r =
+        go : (b : Bool) (m : Out Body) → got ≡ checked-as b m → read ≡ m → row-left (answered next Accepted) output₂ work ≡ left-as b m
+        go false m e r = absurd (let y : _≡_ {A = ℕ} 0 1 = cc in omega arith)
+        go true (refused other) e r = absurd (let y : _≡_ {A = ℕ} 0 1 = cc in omega arith)
+        go true (ok body left) e r =
             let again : record-left got₂ output₂ ≡ record-replied N copied (ok body left) = rw f at d ∙ over-copy ∙ ap (record-replied N copied) r in
             cc
 
 -- the data cut where the record ends
-module _ (rows : Rows) (held : List ℕ) (p : Place) (output work : List ℕ) (ready : RowReady rows held p output work) where
+module _ (rows : Rows) (held : List ℕ) (p : Place) (work : List ℕ) (ready : RowReady rows held p work) where
   pub cut-end : p .end ≡ length (take (p .end) held)
   cut-end = omega (arith, length-take (p .end) held, ready .inside)
 
   pub cut-holds : p .start ≤ length (take (p .end) held)
   cut-holds = omega (arith, cut-end, ready .rises)
 
-  pub output-room : (output₁ : List ℕ) → length output₁ ≡ length output → rows .fields .samples ≤ length output₁
-  output-room output₁ e = omega (arith, ready .output-holds)
+pub buffer-room : (n : ℕ) (buffer buffer₁ : List ℕ) → n ≤ length buffer → length buffer₁ ≡ length buffer → n ≤ length buffer₁
+buffer-room n buffer buffer₁ h e = omega arith
 
 -- past a record
 pub past-is : (rows : Rows) (end : ℕ) (why : Refusal)
     → record { fields = rows .fields; variant = file-variant (rows .variant .0 + 1); start = end; refusal = why } ≡ past rows end why
 past-is rows end why = rw add-one
 
-pub ruleset step-laws = (alone-refused, alone-accepted, anchor-refused, leaning-refused, leaning-accepted, row-there, cut-end, cut-holds, output-room)
+pub ruleset checked-laws = (checked-anchor, checked-body, leans-there, row-there, cut-end, cut-holds)
+
+pub ruleset step-laws = (alone-refused, alone-accepted, leaning-refused, leaning-accepted, cut-end, cut-holds, buffer-room)

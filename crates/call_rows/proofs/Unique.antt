@@ -11,10 +11,13 @@ use Rattle.call_rows.specs.declared.RowsReply.{RowsReply}
 use Rattle.call_rows.specs.declared.RowsReply.the-variants.{Started, Refused}
 use Rattle.call_rows.specs.declared.RowStep.{RowStep}
 use Rattle.call_rows.specs.Calls.{rows-answer, Left, answered, row-left}
+use Rattle.call_rows.specs.Phased.{LeftPhased, phased-row-left}
 use Rattle.call_rows.proofs.start_rows as start
 use Rattle.call_rows.proofs.start_rows.Reads as start-contract
 use Rattle.call_rows.proofs.next_row as next
 use Rattle.call_rows.proofs.next_row.Reads as next-contract
+use Rattle.call_rows.proofs.phased.next_phased_row as phased
+use Rattle.call_rows.proofs.phased.next_phased_row.Reads as phased-contract
 
 same-start : (r s : RowsReply) → rows-answer r ≡ rows-answer s → r ≡ s
 same-start (Started rows) (Started other) e = cc
@@ -39,3 +42,15 @@ next-row-unique κs lent r s left left₁ p q =
     let e : row-left r (now (left .1 .1 .0)) (now (left .1 .1 .1 .0)) ≡ row-left s (now (left₁ .1 .1 .0)) (now (left₁ .1 .1 .1 .0)) = p ∙ sym q in
     let same = same-read (r .reply) (s .reply) _ _ _ _ (ap as-of-read e) in
     (ap₂ answered (ap (λ (z : Left). z .rows) e) (same .0), same .1, same .2)
+
+-- the same, and the phases
+pub next-phased-row-unique : (κs : Lfts 4) (lent : ArgsD phased.signature κs) (r s : RowStep) (left left₁ : AtExit phased.ended κs)
+    → phased-contract.Post κs lent r left → phased-contract.Post κs lent s left₁
+    → (r ≡ s) × (now (left .1 .1 .0) ≡ now (left₁ .1 .1 .0)) × (now (left .1 .1 .1 .0) ≡ now (left₁ .1 .1 .1 .0))
+    × (now (left .1 .1 .1 .1 .0) ≡ now (left₁ .1 .1 .1 .1 .0))
+next-phased-row-unique κs lent r s left left₁ p q =
+    let e : phased-row-left r (now (left .1 .1 .0)) (now (left .1 .1 .1 .0)) (now (left .1 .1 .1 .1 .0))
+    ≡ phased-row-left s (now (left₁ .1 .1 .0)) (now (left₁ .1 .1 .1 .0)) (now (left₁ .1 .1 .1 .1 .0)) = p ∙ sym q in
+    let row = ap (λ (z : LeftPhased). z .row) e in
+    let same = same-read (r .reply) (s .reply) _ _ _ _ (ap as-of-read row) in
+    (ap₂ answered (ap (λ (z : Left). z .rows) row) (same .0), same .1, ap (λ (z : LeftPhased). z .phases) e, same .2)

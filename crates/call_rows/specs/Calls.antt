@@ -23,6 +23,7 @@ use Rattle.head_blocks.specs.Parts.{fixed}
 use Rattle.head_records.specs.Extent.{record-type, record-size}
 use Rattle.head_places.specs.declared.Place.{Place}
 use Rattle.read_record.specs.Recorded.{RecordLeft, record-left, recorded}
+use Rattle.read_check.specs.Checked.{body-checked}
 use Rattle.call_rows.specs.declared.Rows.{Rows}
 use Rattle.call_rows.specs.declared.RowsReply.{RowsReply}
 use Rattle.call_rows.specs.declared.RowsReply.the-variants as rows-reply
@@ -126,6 +127,13 @@ leaning rows end output work (record-left (Refused why) row) = row-left (answere
 abbrev pub read-at : Rows → List ℕ → Place → List ℕ → RecordLeft
 read-at rows held p row = recorded (rows .fields .samples) (p .record_type) (take (p .end) held) (p .start) row
 
+-- 01, Replies: "an anchor is checked before the record that leans on it": refused as its anchor was, or checked over the anchor's row
+unfoldable pub leaning-checked : Rows → List ℕ → Place → List ℕ → Reply
+leaning-checked rows held p work =
+    pick (eqb (rows .refusal .number) 0)
+    (body-checked (rows .fields .samples) (p .record_type) (take (p .end) held) (p .start) work)
+    (Refused (rows .refusal))
+
 -- a record that leans on none, read in the work area
 abbrev pub over-nothing : Rows → List ℕ → Place → List ℕ → List ℕ → Left
 over-nothing rows held p output work = alone rows (p .end) output (read-at rows held p work)
@@ -156,11 +164,10 @@ pub record Standing (rows : Rows) : Type 0 where
   pub few-samples : rows .fields .samples ≤ most-samples
   pub below : rows .variant .0 < rows .fields .variants
 
--- the record's place lies in the data, its type's kind is one of the seven, and both buffers hold a row
-pub record RowReady (rows : Rows) (held : List ℕ) (p : Place) (output work : List ℕ) : Type 0 where
+-- the record's place lies in the data, its type's kind is one of the seven, and the work area holds a row
+pub record RowReady (rows : Rows) (held : List ℕ) (p : Place) (work : List ℕ) : Type 0 where
   pub few-variants : rows .variant .0 < most-variants
   pub few-samples : rows .fields .samples ≤ most-samples
-  pub output-holds : rows .fields .samples ≤ length output
   pub work-holds : rows .fields .samples ≤ length work
   pub rises : p .start ≤ p .end
   pub inside : p .end ≤ length held

@@ -1,15 +1,18 @@
 // A way through a file that pays for one header check: a state that a start call gives, and a call for the next variant's categories. Between calls
 // the work area holds the categories of the last record that leans on none, which is the anchor of the next one that leans.
 ghost use mathlib.Core.Path.{_≡_};
-ghost use mathlib.Core.Bool.{false};
+ghost use mathlib.Core.Bool.{true, false};
 ghost use Prim.Native.Nat.{_≤_, _<_};
+ghost use lib.ListN.{length};
 ghost use Rattle.format.specs.Limits.{most-variants, variants-to-a-block};
+ghost use Rattle.format.specs.Body.{type-leans};
 ghost use Rattle.format.specs.Layout.{unblocked};
 ghost use Rattle.format.specs.Header.{type-place};
 ghost use Rattle.format.specs.Reply.{plain-answer};
 ghost use Rattle.head_blocks.specs.Parts.{fixed};
 ghost use Rattle.call_rows.specs.Calls.{first-row, rows-answer, start-rows-call, state-checked, Standing, anchor-told, type-follows, record-checked};
-ghost use Rattle.call_rows.specs.Calls.{next-record, found, past, RowReady, over-nothing, over-anchor, row-left, next-row-in, next-row-call};
+ghost use Rattle.call_rows.specs.Calls.{next-record, found, past, RowReady, over-nothing, leaning-checked, over-anchor, row-left};
+ghost use Rattle.call_rows.specs.Calls.{next-row-in, next-row-call};
 use base_cursor::Cursor;
 use base_rows::copy;
 use base_variants::in_block;
@@ -34,6 +37,10 @@ use head_types::type_allowed;
 use head_types::type_leans;
 use read_check::check_body;
 use read_record::read_body;
+
+pub mod phased;
+
+pub use phased::next_phased_row;
 
 // The next variant, where its record starts, and how the last record that leans on none was refused: number 0 at place 0 if it was accepted.
 pub struct Rows {
@@ -196,7 +203,7 @@ fn past(rows: Rows, end: usize, refusal: Refusal) -> Rows
 
 // A record that leans on none is read in the work area, where its categories stay for those that lean on it.
 fn step_alone(rows: Rows, held: &[u8], p: Place, output: &mut [u8], work: &mut [u8]) -> RowStep
-    requires { ⌜ RowReady rows (now held) p (now output) (now work) ⌝ }
+    requires { ⌜ RowReady rows (now held) p (now work) × (rows .fields .samples ≤ length (now output)) ⌝ }
     ensures { λ r. ⌜ row-left r (now (output .exit)) (now (work .exit)) ≡ over-nothing rows (now (held .entry)) p (now (output .entry)) (now (work .entry)) ⌝ }
 {
     let end = p.end;
@@ -217,23 +224,29 @@ fn step_alone(rows: Rows, held: &[u8], p: Place, output: &mut [u8], work: &mut [
     }
 }
 
-// One that leans is checked over the work area, which stays, and then read in the output over a copy of it: a refusal finds the output untouched.
+// One that leans is refused as its anchor was, or checked over the anchor's row, which the work area holds.
+fn leaning_checked(rows: Rows, held: &[u8], p: Place, work: &[u8]) -> Reply
+    requires { ⌜ RowReady rows (now held) p (now work) × (type-leans (p .record_type) ≡ true) ⌝ }
+    ensures { λ r. ⌜ r ≡ leaning-checked rows (now (held .entry)) p (now (work .entry)) ⌝ }
+{
+    let end = p.end;
+    let anchors = rows.refusal;
+    if anchors.number != 0 {
+        return Reply::Refused(anchors);
+    }
+    let n = rows.fields.samples;
+    check_body(&held[..end], Cursor { at: p.start }, n, p.record_type, work)
+}
+
+// It is read in the output over a copy of the work area, which stays: a refusal finds the output untouched.
 fn step_leaning(rows: Rows, held: &[u8], p: Place, output: &mut [u8], work: &mut [u8]) -> RowStep
-    requires { ⌜ RowReady rows (now held) p (now output) (now work) ⌝ }
+    requires { ⌜ RowReady rows (now held) p (now work) × (rows .fields .samples ≤ length (now output)) × (type-leans (p .record_type) ≡ true) ⌝ }
     ensures { λ r. ⌜ row-left r (now (output .exit)) (now (work .exit)) ≡ over-anchor rows (now (held .entry)) p (now (output .entry)) (now (work .entry)) ⌝ }
 {
     let end = p.end;
     let n = rows.fields.samples;
-    let anchors = rows.refusal;
-    let next = past(rows, end, anchors);
-    if anchors.number != 0 {
-        return RowStep {
-            rows: next,
-            reply: Reply::Refused(anchors),
-        };
-    }
-    let here = Cursor { at: p.start };
-    let got = check_body(&held[..end], here, n, p.record_type, &work[..]);
+    let next = past(rows, end, rows.refusal);
+    let got = leaning_checked(rows, held, p, &work[..]);
     match got {
         Reply::Refused(why) => RowStep {
             rows: next,
@@ -241,7 +254,13 @@ fn step_leaning(rows: Rows, held: &[u8], p: Place, output: &mut [u8], work: &mut
         },
         Reply::Accepted => {
             copy(work, n, output);
-            read_body(&held[..end], here, n, p.record_type, output);
+            read_body(
+                &held[..end],
+                Cursor { at: p.start },
+                n,
+                p.record_type,
+                output,
+            );
             RowStep {
                 rows: next,
                 reply: Reply::Accepted,

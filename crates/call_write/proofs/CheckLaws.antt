@@ -12,13 +12,13 @@ use lib.Seq.{drop-cons}
 use lib.Dec.{eqb, ltb, leb}
 use borrow.Author.Tests.{lt-ltb, le-ltb, le-leb, lt-leb, eq-eqb, ne-eqb, not-true, not-false}
 use Rattle.format.specs.declared.Refusal.{Refusal}
-use Rattle.format.specs.Base.{pick, Out, ok, refusal, refuse, need}
+use Rattle.format.specs.Base.{pick, Out, ok, refused, refusal, refuse, need}
 use Rattle.format.specs.Limits.{most-samples}
 use Rattle.format.specs.Track.{leans}
 use Rattle.format.specs.Layout.{from-1-to}
 use Rattle.format.specs.Writer.{need-categories}
 use Rattle.call_write.specs.Asked.{asked-for, is-allowed}
-use Rattle.call_write.specs.Checked.{first-above, allowed, check-categories, check-out, as-checked, check-record}
+use Rattle.call_write.specs.Checked.{first-above, allowed, check-categories, kind-out, check-out, as-checked}
 use Rattle.call_write.specs.declared.Asked.{Asked}
 use Rattle.call_write.specs.declared.Checked.{Checked}
 use Rattle.call_write.specs.declared.Checked.the-variants as checked
@@ -112,12 +112,13 @@ pub ruleset category-laws = (refused-category, refused-lent, all-categories)
 -- ---- one check after another
 
 module _ (categories : List ℕ) (number code : ℕ) (anchor : List ℕ) where
-  pub refused-none : length categories ≡ 0 → {why : Refusal} → why ≡ refusal 4 0 → checked.Refused why ≡ check-record categories number code anchor
-  unfolding check-out
+  pub refused-none : length categories ≡ 0 → {why : Refusal} → why ≡ refusal 4 0 → checked.Refused why ≡ as-checked (kind-out categories number code anchor)
+  unfolding kind-out
   refused-none z w = let h : leb 1 (length categories) ≡ false = lt-leb 1 (length categories) (omega arith) in simp (w, h)
 
-  pub refused-many : most-samples < length categories → {why : Refusal} → why ≡ refusal 4 0 → checked.Refused why ≡ check-record categories number code anchor
-  unfolding check-out
+  pub refused-many : most-samples < length categories → {why : Refusal} → why ≡ refusal 4 0
+      → checked.Refused why ≡ as-checked (kind-out categories number code anchor)
+  unfolding kind-out
   refused-many m w =
       let h : leb 1 (length categories) ≡ true = le-leb 1 (length categories) (omega arith) in
       let k : leb (length categories) most-samples ≡ false = lt-leb (length categories) most-samples m in
@@ -131,8 +132,8 @@ module _ (categories : List ℕ) (number code : ℕ) (anchor : List ℕ) where
         simp (h, k)
 
     module _ (a : Asked) (e : a ≡ asked-for number code) (may : Bool) (m : may ≡ is-allowed a) where
-      pub refused-kind : not may ≡ true → {why : Refusal} → why ≡ refusal 19 0 → checked.Refused why ≡ check-record categories number code anchor
-      unfolding check-out
+      pub refused-kind : not may ≡ true → {why : Refusal} → why ≡ refusal 19 0 → checked.Refused why ≡ as-checked (kind-out categories number code anchor)
+      unfolding kind-out
       refused-kind q w =
           let n : allowed (asked-for number code) ≡ refuse 19 0 = rw (← e) (allowed-no a (sym m ∙ not-true may q)) in
           simp (w, sized, n)
@@ -142,8 +143,8 @@ module _ (categories : List ℕ) (number code : ℕ) (anchor : List ℕ) where
         yes = rw (← e) (allowed-yes a (sym m ∙ not-false may q))
 
         pub refused-anchor : (length anchor ≡ size → ⊥) → {why : Refusal} → why ≡ refusal 10 0
-            → checked.Refused why ≡ check-record categories number code anchor
-        unfolding check-out
+            → checked.Refused why ≡ as-checked (kind-out categories number code anchor)
+        unfolding kind-out
         refused-anchor d w =
             let n : eqb (length anchor) (pick (leans number) (length categories) 0) ≡ false = rw (← s) (ne-eqb (length anchor) size d) in
             simp (w, sized, yes, n)
@@ -152,8 +153,30 @@ module _ (categories : List ℕ) (number code : ℕ) (anchor : List ℕ) where
           there : eqb (length anchor) (pick (leans number) (length categories) 0) ≡ true
           there = rw (← s) (eq-eqb (length anchor) size l)
 
-          pub checks-left : (r : Checked) → r ≡ as-checked (check-categories a categories anchor) → r ≡ check-record categories number code anchor
-          unfolding check-out
-          checks-left r n = n ∙ simp (sized, yes, there)
+          pub kind-passed : checked.Allowed a ≡ as-checked (kind-out categories number code anchor)
+          unfolding kind-out
+          kind-passed = simp (sized, yes, there)
 
-pub ruleset check-laws = (refused-none, refused-many, refused-kind, refused-anchor, checks-left)
+pub ruleset kind-laws = (refused-none, refused-many, refused-kind, refused-anchor, kind-passed)
+
+-- ---- what the checks answered
+
+pub stopped : (out : Out Asked) (why : Refusal) → as-checked out ≡ checked.Refused why → out ≡ refused why
+stopped (ok b left) why e = let z : _≡_ {A = ℕ} 0 1 = cc in absurd (omega arith)
+stopped (refused other) why e = cc
+
+pub passed-as : (out : Out Asked) (a : Asked) → as-checked out ≡ checked.Allowed a → (left : List ℕ) × (out ≡ ok a left)
+passed-as (ok b left) a e = (left, cc)
+passed-as (refused why) a e = let z : _≡_ {A = ℕ} 0 1 = cc in absurd (omega arith)
+
+module _ (categories : List ℕ) (number code : ℕ) (anchor : List ℕ) (r : Checked) (e : r ≡ as-checked (kind-out categories number code anchor)) where
+  pub record-refused : (why : Refusal) → r ≡ checked.Refused why → checked.Refused why ≡ as-checked (check-out categories number code anchor)
+  unfolding check-out
+  record-refused why q = simp (stopped (kind-out categories number code anchor) why (sym e ∙ q))
+
+  pub record-checked : (a : Asked) → r ≡ checked.Allowed a → (s : Checked) → s ≡ as-checked (check-categories a categories anchor)
+      → s ≡ as-checked (check-out categories number code anchor)
+  unfolding check-out
+  record-checked a q s n = n ∙ simp (passed-as (kind-out categories number code anchor) a (sym e ∙ q) .1)
+
+pub ruleset check-laws = (record-refused, record-checked)

@@ -1,8 +1,12 @@
 pub mod AskedLaws
 pub mod CheckLaws
+pub mod PhasedCheckLaws
 pub mod SizeLaws
+pub mod ReplyLaws
 pub mod CallLaws
+pub mod PhasedLaws
 pub mod Allowed
 pub mod Promises
+pub mod PhasedPromises
 pub mod LargestLaws
 pub mod Unique

@@ -25,10 +25,10 @@ use Rattle.format.proofs.WriteReadLaws.{ReadsBack, write-read, read-write}
 use Rattle.call_write.proofs.CallLaws.{write-fits}
 use Rattle.call_write.proofs.Allowed.{Allows, Accepted, Refused, allows-count, allows-refused}
 
-take-first : (count : ℕ) (bytes rest after : List ℕ) → count ≡ length bytes → after ≡ bytes ++ rest → take count after ≡ bytes
+pub take-first : (count : ℕ) (bytes rest after : List ℕ) → count ≡ length bytes → after ≡ bytes ++ rest → take count after ≡ bytes
 take-first count bytes rest after c e = rw (c, e) (take-append-seam bytes rest)
 
-drop-first : (count : ℕ) (bytes output after : List ℕ) → count ≡ length bytes → after ≡ bytes ++ drop (length bytes) output
+pub drop-first : (count : ℕ) (bytes output after : List ℕ) → count ≡ length bytes → after ≡ bytes ++ drop (length bytes) output
     → drop count after ≡ drop count output
 drop-first count bytes output after c e = rw (c, e) (drop-append-seam bytes (drop (length bytes) output))
 

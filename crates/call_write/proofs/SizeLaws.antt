@@ -9,7 +9,7 @@ use lib.Dec.{eqb}
 use mir.Syntax.{w64}
 use mir.Val.{Fits}
 use Rattle.format.specs.declared.Pair.{Pair}
-use Rattle.format.specs.Packed.{packed-size}
+use Rattle.format.specs.Packed.{one, two, packed-size}
 use Rattle.format.specs.Difflist.{number-width, list-bytes}
 use Rattle.format.proofs.PackedLaws.{packed-length}
 use Rattle.write_bytes.specs.Written.{Wrote}
@@ -72,6 +72,23 @@ module _ (a : Asked) (anchor categories : List ℕ) where
     pair-fits f =
         let rows : RowsFit (base.Pair (p .lower) (p .higher)) anchor categories = rows-pair a (p .lower) (p .higher) anchor categories f in
         record { fits = omega (arith, s .bytes-are, f .few, list-most (length categories) (base.Pair (p .lower) (p .higher)) anchor categories rows) }
+
+-- no record is longer
+pub record-most : (a : Asked) (anchor categories : List ℕ) → AskedFits a anchor categories → length (asked-bytes a anchor categories) ≤ 500000
+record-most asked.Array anchor categories f = omega (arith, f .few, packed-length two (length categories) categories refl)
+record-most (asked.Pair p) anchor categories f =
+    let bits : List ℕ = array-bytes (arrays.Bits (p .higher)) categories in
+    let list : List ℕ = bytes-of-list (base.Pair (p .lower) (p .higher)) anchor categories in
+    omega (
+      arith,
+      f .few,
+      array-length (arrays.Bits (p .higher)) categories (packed-size one (length categories)) refl,
+      length-append bits list,
+      list-most (length categories) (base.Pair (p .lower) (p .higher)) anchor categories (rows-pair (asked.Pair p) (p .lower) (p .higher) anchor categories f),
+    )
+record-most (asked.List b) anchor categories f =
+    omega (arith, list-most (length categories) b anchor categories (rows-list (asked.List b) b anchor categories refl f))
+record-most asked.NotAllowed anchor categories f = omega arith
 
 pub ruleset size-laws = (rows-list, rows-pair, size-array, size-list, size-pair, pair-fits)
 

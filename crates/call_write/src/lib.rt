@@ -1,4 +1,4 @@
-// The writer of one main-track record, in any of the seven kinds.
+// The writer of one main-track record, in any of the seven kinds; in phased.rt, with a phase track after it.
 use base_pairs::pair_of;
 use base_rows::larger;
 use format::MOST_SAMPLES;
@@ -23,7 +23,9 @@ ghost use Rattle.format.specs.Track.{leans};
 ghost use Rattle.format.specs.Reply.{write-left, write-call};
 ghost use Rattle.write_bytes.specs.Written.{Wrote};
 ghost use Rattle.call_write.specs.Asked.{asked-code, asked-for, asked-count, asked-bytes, is-allowed, AskedFits, RecordSize};
-ghost use Rattle.call_write.specs.Checked.{first-above, check-categories, as-checked, check-record};
+ghost use Rattle.call_write.specs.Checked.{first-above, check-categories, as-checked, kind-out, check-out};
+
+pub mod phased;
 
 // 01, Categories and kinds: what a kind and a pair code ask for. Kind 0, "the packed array"; kind 1, a pair's bits and list; the others, a list.
 pub enum Asked {
@@ -144,9 +146,9 @@ fn check_categories(asked: Asked, categories: &[u8], anchor: &[u8]) -> Checked
 }
 
 // 01: "Order: 4 with place 0 (category count outside 1 to 65,536), 19, 10 (anchor not as long as the categories in kinds 2 and 3, or not empty in
-// another), 20".
-fn check_record(categories: &[u8], kind: usize, code: usize, anchor: &[u8]) -> Checked
-    ensures { λ r. ⌜ r ≡ check-record (now (categories .entry)) kind code (now (anchor .entry)) ⌝ }
+// another)".
+fn check_kind(categories: &[u8], kind: usize, code: usize, anchor: &[u8]) -> Checked
+    ensures { λ r. ⌜ r ≡ as-checked (kind-out (now (categories .entry)) kind code (now (anchor .entry))) ⌝ }
 {
     let samples = categories.len();
     if samples == 0 {
@@ -162,7 +164,17 @@ fn check_record(categories: &[u8], kind: usize, code: usize, anchor: &[u8]) -> C
     if anchor.len() != anchor_size(kind, samples) {
         return Checked::Refused(refusal_at(10, 0));
     }
-    check_categories(asked, categories, anchor)
+    Checked::Allowed(asked)
+}
+
+// 01: then "20".
+fn check_record(categories: &[u8], kind: usize, code: usize, anchor: &[u8]) -> Checked
+    ensures { λ r. ⌜ r ≡ as-checked (check-out (now (categories .entry)) kind code (now (anchor .entry))) ⌝ }
+{
+    match check_kind(categories, kind, code, anchor) {
+        Checked::Refused(why) => Checked::Refused(why),
+        Checked::Allowed(asked) => check_categories(asked, categories, anchor),
+    }
 }
 
 // How many bytes the record has, and how many entries its list.

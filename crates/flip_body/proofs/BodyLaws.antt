@@ -1,20 +1,24 @@
--- THE LAW of a body's flip: on the bytes of a body that fits it gives the bytes of the flipped body. And of any bytes it keeps the length.
+-- THE LAW of a body's flip: on the bytes of a body that fits it gives the bytes of its main track flipped, with what stands after that track as it was. And
+-- of any bytes it keeps the length.
 -- Assumes nothing.
 use mathlib.Core.Path.{_≡_, refl, sym, ap, _∙_}
 use Prim.Native.Nat.{ℕ, zero, suc, _+_, _-_, _/_, _≤_}
 use mathlib.Core.Bool.{Bool, true, false}
-use mathlib.Core.List.{List, _++_}
+use mathlib.Core.List.{List, _∷_, _++_, map, append-assoc}
 use lib.ListN.{length, getD, take, drop, set, length-append, take-append-drop, length-set}
 use lib.Dec.{leb}
 use Rattle.format.specs.declared.PairFound.{PairFound}
 use Rattle.format.specs.declared.PairFound.the-variants as known
 use Rattle.format.specs.Base.{pick, Out, ok, refused}
-use Rattle.format.specs.Category.{exchange}
+use Rattle.format.specs.Category.{exchange, just-one}
+use Rattle.format.specs.Packed.{one, packed}
+use Rattle.format.specs.Difflist.{number-width, list-bytes}
 use Rattle.format.specs.Varint.{read-varint}
-use Rattle.format.specs.PairCode.{found}
+use Rattle.format.specs.PairCode.{pair, image, found}
 use Rattle.format.specs.Limits.{most-samples}
-use Rattle.format.specs.Track.{Track, plain, one-bit, leaning, sparse, track-kind, track-leans, off-anchor, off-category, Fits, track-bytes, flip-track}
-use Rattle.format.specs.Body.{kind-of, type-leans, Body, body-type, body-leans, body-bytes, BodyFits, flip-body}
+use Rattle.format.specs.Track.{Track, plain, one-bit, leaning, sparse, track-kind, track-leans, off-anchor, off-category, Fits}
+use Rattle.format.specs.Track.{bit-number, track-bytes, revalue, flip-track}
+use Rattle.format.specs.Body.{kind-of, type-leans, Body, body-type, body-leans, BodyFits}
 use Rattle.format.specs.File.{next-anchor}
 use Rattle.format.proofs.BodyLaws.{body-kind, body-leans-typed}
 use Rattle.format.proofs.Rules.{by-test}
@@ -25,15 +29,19 @@ use Rattle.flip_body.specs.Edits.{values-flipped, before-values, count-r
 use Rattle.flip_body.specs.Edits.{pair-flipped-as, pair-flipped, kind-flipped, body-flipped}
 use Rattle.flip_body.proofs.EditLaws.{plain-law, list-law, pair-law}
 
--- a body whose bytes are flipped
-kind-law : (N : ℕ) (anchor : List ℕ) (t : Track) → N ≤ most-samples → Fits N anchor t
-    → kind-flipped N (track-kind t) (track-bytes N t) ≡ track-bytes N (flip-track true true t)
+-- a track whose bytes are flipped, whatever stands after it
+kind-law : (N : ℕ) (anchor : List ℕ) (t : Track) (after : List ℕ) → N ≤ most-samples → Fits N anchor t
+    → kind-flipped N (track-kind t) (track-bytes N t ++ after) ≡ track-bytes N (flip-track true true t) ++ after
 unfolding track-bytes
-kind-law N anchor (plain categories) l f = plain-law N categories (f .0) (f .1)
-kind-law N anchor (one-bit c bits es) l f = pair-law N c bits es l (f .0) (f .1)
-kind-law N anchor (leaning true es) l f = list-law N (off-anchor anchor) es l f
-kind-law N anchor (leaning false es) l f = list-law N (off-anchor anchor) es l f
-kind-law N anchor (sparse category es) l f = list-law N (off-category category) es l (f .1)
+kind-law N anchor (plain categories) after l f = plain-law N categories after (f .0) (f .1)
+kind-law N anchor (one-bit c bits es) after l f =
+    let turned : List Bool = map (just-one (pair c .turns)) bits in
+    ap (λ (x : List ℕ). pair-flipped N (pair c .code ∷ x)) (append-assoc (packed one (map bit-number bits)) (list-bytes (number-width N) es) after)
+    ∙ pair-law N c bits es after l (f .0) (f .1)
+    ∙ ap (_∷_ (pair (image c) .code)) (sym (append-assoc (packed one (map bit-number turned)) (list-bytes (number-width N) (revalue true es)) after))
+kind-law N anchor (leaning true es) after l f = list-law N (off-anchor anchor) es after l f
+kind-law N anchor (leaning false es) after l f = list-law N (off-anchor anchor) es after l f
+kind-law N anchor (sparse category es) after l f = list-law N (off-category category) es after l (f .1)
 
 -- the bytes see one membership only
 one-membership : (N : ℕ) (lent member : Bool) (t : Track) → let one : Bool = next-anchor (track-leans t) lent member in
@@ -44,16 +52,18 @@ one-membership N lent member (one-bit c bits es) = refl
 one-membership N lent member (leaning inverted es) = refl
 one-membership N lent member (sparse category es) = refl
 
-pub body-law : (N : ℕ) (anchor : List ℕ) (lent member : Bool) (body : Body) → N ≤ most-samples → BodyFits N anchor body
-    → body-flipped N (body-type body) lent member (body-bytes N body) ≡ body-bytes N (flip-body lent member body)
+-- the main track of a body is flipped, and what stands after it stays: its phase track, whose flip is a pass of its own
+pub body-law : (N : ℕ) (anchor : List ℕ) (lent member : Bool) (body : Body) (after : List ℕ) → N ≤ most-samples → BodyFits N anchor body
+    → body-flipped N (body-type body) lent member (track-bytes N (body .main) ++ after) ≡ track-bytes N (flip-track lent member (body .main)) ++ after
 unfolding body-flipped
-body-law N anchor lent member body l f =
+body-law N anchor lent member body after l f =
     rw (body-leans-typed N anchor body f, body-kind N anchor body f) (go (next-anchor (body-leans body) lent member))
-    ∙ sym (one-membership N lent member (body .main))
+    ∙ ap (λ (x : List ℕ). x ++ after) (sym (one-membership N lent member (body .main)))
   where
-    go : (m : Bool) → pick m (kind-flipped N (body-type body) (body-bytes N body)) (body-bytes N body) ≡ track-bytes N (flip-track m m (body .main))
-    go true = kind-law N anchor (body .main) l f
-    go false = ap (track-bytes N) (sym (flip-track-none (body .main)))
+    go : (m : Bool) → pick m (kind-flipped N (track-kind (body .main)) (track-bytes N (body .main) ++ after)) (track-bytes N (body .main) ++ after)
+        ≡ track-bytes N (flip-track m m (body .main)) ++ after
+    go true = kind-law N anchor (body .main) after l (f .0)
+    go false = ap (λ (t : Track). track-bytes N t ++ after) (sym (flip-track-none (body .main)))
 
 -- ---- of any bytes the length stays
 

@@ -1,9 +1,9 @@
--- The edits of a body, on the bytes of a track's parts.
+-- The edits of a body, on the bytes of a track's parts, whatever stands after them.
 -- Assumes nothing.
 use mathlib.Core.Path.{_≡_, refl, sym, ap, ap₂, _∙_}
 use Prim.Native.Nat.{ℕ, _+_, _-_, _*_, _/_, _≤_, zero-le}
 use mathlib.Core.Bool.{Bool, true, false}
-use mathlib.Core.List.{List, [], _∷_, _++_, map, append-assoc, append-nil}
+use mathlib.Core.List.{List, [], _∷_, _++_, map, append-assoc}
 use lib.ListN.{length, length-append, length-map}
 use lib.Seq.{take-at, drop-at}
 use native.Mathlib.Omega.{arith}
@@ -40,21 +40,20 @@ values-law before vs after p L e k h =
     simp (le-leb (p + (L + 3) / 4) (length s) g, take-at before rest p e, drop-at before rest p e, values-packed L vs after k h)
 
 -- kind 0
-pub plain-law : (N : ℕ) (vs : List ℕ) → length vs ≡ N → Below 4 vs → values-flipped 0 N (packed two vs) ≡ packed two (exchange-all true vs)
-plain-law N vs e h =
-    ap (values-flipped 0 N) (sym (append-nil (packed two vs))) ∙ values-law [] vs [] 0 N refl e h
-    ∙ append-nil (packed two (exchange-all true vs))
+pub plain-law : (N : ℕ) (vs after : List ℕ) → length vs ≡ N → Below 4 vs
+    → values-flipped 0 N (packed two vs ++ after) ≡ packed two (exchange-all true vs) ++ after
+plain-law N vs after e h = values-law [] vs after 0 N refl e h
 
 -- a list that is written out
-pub list-law : (N : ℕ) (may : ℕ → ℕ → Bool) (es : List Entry) → N ≤ most-samples → Rising (rule N may) 0 es
-    → list-flipped N (list-bytes (number-width N) es) ≡ list-bytes (number-width N) (revalue true es)
+pub list-law : (N : ℕ) (may : ℕ → ℕ → Bool) (es : List Entry) (after : List ℕ) → N ≤ most-samples → Rising (rule N may) 0 es
+    → list-flipped N (list-bytes (number-width N) es ++ after) ≡ list-bytes (number-width N) (revalue true es) ++ after
 unfolding list-flipped list-parts
-list-law N may es l g =
+list-law N may es after l g =
     let w : ℕ = number-width N in
     let L : ℕ = length es in
     let vs : List ℕ = values es in
-    let after : List ℕ = steps 0 0 es in
-    let parts : List ℕ = numbers-bytes w (heads 0 es) ++ (size-bytes es ++ (packed two vs ++ after)) in
+    let behind : List ℕ = steps 0 0 es ++ after in
+    let parts : List ℕ = numbers-bytes w (heads 0 es) ++ (size-bytes es ++ (packed two vs ++ behind)) in
     let before : List ℕ = varint-bytes L ++ (numbers-bytes w (heads 0 es) ++ size-bytes es) in
     let s : List ℕ = varint-bytes L ++ parts in
     let p : ℕ = length s - length parts + before-values N L in
@@ -62,12 +61,14 @@ list-law N may es l g =
     let reads : read-varint (length s) s ≡ ok L parts = varint-read-back (length s) L parts (omega arith) in
     let head-bytes : length (numbers-bytes w (heads 0 es)) ≡ w * groups L = numbers-length w (heads 0 es) ∙ ap (_*_ w) (heads-count es) in
     let e : length before ≡ p = simp length-append (omega (arith, length-append (varint-bytes L) parts, head-bytes, sizes-count es)) in
-    ap (count-read N s) reads
+    let grouped : list-bytes w es ++ after ≡ s = simp append-assoc in
+    ap (list-flipped N) grouped
+    ∙ ap (count-read N s) reads
     ∙ ap (λ (t : Bool). pick t (values-flipped p L s) s) (le-leb L N fits)
     ∙ ap (values-flipped p L) (simp append-assoc)
-    ∙ values-law before vs after p L e (values-length es) (values-below (rule N may) 0 es g)
+    ∙ values-law before vs behind p L e (values-length es) (values-below (rule N may) 0 es g)
     ∙ (simp append-assoc)
-    ∙ sym (list-revalued true w es)
+    ∙ ap (λ (x : List ℕ). x ++ after) (sym (list-revalued true w es))
 
 -- ---- kind 1
 
@@ -84,12 +85,13 @@ bits-law false x N bits after e = ap (λ (bs : List Bool). x ∷ (packed one (ma
     same (b ∷ bs) = ap (_∷_ b) (same bs)
 
 -- a pair that is written out
-pub pair-law : (N : ℕ) (c : PairCode) (bits : List Bool) (es : List Entry) → N ≤ most-samples → length bits ≡ N → Rising (rule N (off-pair c)) 0 es
-    → pair-flipped N (pair c .code ∷ (packed one (map bit-number bits) ++ list-bytes (number-width N) es))
-    ≡ pair (image c) .code ∷ (packed one (map bit-number (map (just-one (pair c .turns)) bits)) ++ list-bytes (number-width N) (revalue true es))
+pub pair-law : (N : ℕ) (c : PairCode) (bits : List Bool) (es : List Entry) (after : List ℕ) → N ≤ most-samples → length bits ≡ N
+    → Rising (rule N (off-pair c)) 0 es
+    → pair-flipped N (pair c .code ∷ (packed one (map bit-number bits) ++ (list-bytes (number-width N) es ++ after)))
+    ≡ pair (image c) .code ∷ (packed one (map bit-number (map (just-one (pair c .turns)) bits)) ++ (list-bytes (number-width N) (revalue true es) ++ after))
 unfolding pair-flipped
-pair-law N c bits es l e g =
-    let list : List ℕ = list-bytes (number-width N) es in
+pair-law N c bits es after l e g =
+    let list : List ℕ = list-bytes (number-width N) es ++ after in
     let turned : List Bool = map (just-one (pair c .turns)) bits in
     let bs : List ℕ = packed one (map bit-number turned) in
     let s : List ℕ = pair c .code ∷ (packed one (map bit-number bits) ++ list) in
@@ -100,4 +102,4 @@ pair-law N c bits es l e g =
     ∙ ap (λ (f : PairFound). pair-flipped-as f N s) (ap as-found (code-read-back c))
     ∙ ap (list-flipped-at (list-place N) N) (bits-law (pair c .turns) x N bits list e)
     ∙ ap₂ (λ (u v : List ℕ). u ++ list-flipped N v) (take-at (x ∷ bs) list (list-place N) k) (drop-at (x ∷ bs) list (list-place N) k)
-    ∙ ap₂ (λ (y : ℕ) (v : List ℕ). y ∷ (bs ++ v)) (sym (image-number c)) (list-law N (off-pair c) es l g)
+    ∙ ap₂ (λ (y : ℕ) (v : List ℕ). y ∷ (bs ++ v)) (sym (image-number c)) (list-law N (off-pair c) es after l g)

@@ -1,6 +1,6 @@
--- What the two returns of `flip_accepted` say: the bytes left are the flip of an accepted file.
+-- What the passes leave, by what they were told, and that of an accepted file it is the flip.
 -- Assumes nothing.
-use mathlib.Core.Path.{_≡_, ap, _∙_, sym}
+use mathlib.Core.Path.{_≡_, ap, ap₂, _∙_, sym}
 use Prim.Native.Nat.{ℕ, _≤_}
 use mathlib.Core.Bool.{Bool, true, false}
 use mathlib.Core.List.{List}
@@ -18,7 +18,8 @@ use Rattle.head_blocks.specs.Parts.{fixed}
 use Rattle.head_blocks.proofs.Answers.{fails}
 use Rattle.head_blocks.proofs.Sizes.{known-bytes}
 use Rattle.flip_file.specs.Passes.{all-bodies, all-types, passes}
-use Rattle.flip_file.specs.Accepted.{Accepted}
+use Rattle.flip_phase.specs.Accepted.{Accepted}
+use Rattle.flip_phase.specs.AllRecords.{phases-flipped}
 use Rattle.flip_file.proofs.FileLaw.{in-place-is-flip}
 
 module _ (bs : List ℕ) (y : Bytes bs) (f : Fields) (w : Accepted variants-to-a-block bs f) where
@@ -38,20 +39,27 @@ module _ (bs : List ℕ) (y : Bytes bs) (f : Fields) (w : Accepted variants-to-a
   pub samples-few : f .samples ≤ most-samples
   samples-few = omega (arith, from-1-to-most most-samples (l .samples) (fixed-obeys .samples), ap (λ (z : Fixed). z .samples) fixed-is)
 
-  module _ (member : FileVariant → Bool) where
-    flipped : passes variants-to-a-block (fixed f) member bs ≡ flip-bytes variants-to-a-block member bs
-    flipped =
-        ap (λ (x : Fixed). passes variants-to-a-block x member bs) fixed-is
-        ∙ in-place-is-flip variants-to-a-block member bs (w .whole) (lit< tt) y (w .accepted)
+  -- its phases flipped, then its main tracks and types
+  pub accepted-flipped : (member : FileVariant → Bool) (phased : List ℕ) → phased ≡ phases-flipped variants-to-a-block member bs
+      → (later : List ℕ) → later ≡ passes variants-to-a-block (fixed f) member phased → later ≡ flip-bytes variants-to-a-block member bs
+  accepted-flipped member phased r later e =
+      e
+      ∙ ap₂ (λ (x : Fixed) (z : List ℕ). passes variants-to-a-block x member z) fixed-is r
+      ∙ in-place-is-flip variants-to-a-block member bs (w .whole) (lit< tt) y (w .accepted)
 
-    module _ (t : Bool) (e : t ≡ unblocked (f .mode)) (later : List ℕ) (d : later ≡ all-bodies variants-to-a-block (fixed f) member bs) where
-      -- where there are no blocks the bodies are all
-      pub accepted-unblocked : t ≡ true → later ≡ flip-bytes variants-to-a-block member bs
-      accepted-unblocked z = d ∙ rw (sym e ∙ z) at flipped
+pub ruleset accepted-laws = (known-bytes, variants-few, samples-few, accepted-flipped)
 
-      -- else the types too
-      pub accepted-typed : t ≡ false → (last : List ℕ) → last ≡ all-types variants-to-a-block (fixed f) member later
-          → last ≡ flip-bytes variants-to-a-block member bs
-      accepted-typed z last k = k ∙ rw d (rw (sym e ∙ z) at flipped)
+-- ---- the two passes
 
-pub ruleset accepted-laws = (known-bytes, variants-few, samples-few, fails, accepted-unblocked, accepted-typed)
+module _ (f : Fields) (member : FileVariant → Bool) (bs : List ℕ) (t : Bool) (e : t ≡ unblocked (f .mode)) (later : List ℕ)
+    (d : later ≡ all-bodies variants-to-a-block (fixed f) member bs) where
+  -- where there are no blocks the bodies are all
+  pub passed-unblocked : t ≡ true → later ≡ passes variants-to-a-block (fixed f) member bs
+  passed-unblocked z = rw (← e, z) d
+
+  -- else the types too
+  pub passed-typed : t ≡ false → (last : List ℕ) → last ≡ all-types variants-to-a-block (fixed f) member later
+      → last ≡ passes variants-to-a-block (fixed f) member bs
+  passed-typed z last k = rw (← e, z) (k ∙ ap (all-types variants-to-a-block (fixed f) member) d)
+
+pub ruleset passes-laws = (fails, passed-unblocked, passed-typed)

@@ -1,4 +1,4 @@
--- THE LAW of the flip in place: on the bytes of a file that obeys, the two passes leave the bytes of the flipped file.
+-- THE LAW of the flip in place: on the bytes of a file that obeys, with the phases of members flipped, the two passes leave the bytes of the flipped file.
 -- Assumes nothing.
 use mathlib.Core.Path.{_≡_, refl, sym, ap, ap₂, _∙_}
 use Prim.Native.Nat.{ℕ, zero, _+_, _≤_, _<_}
@@ -7,7 +7,7 @@ use mathlib.Core.Bool.{Bool, true, false}
 use mathlib.Core.List.{List, [], _++_, map}
 use lib.ListN.{length, length-map}
 use Rattle.format.specs.declared.FileVariant.{FileVariant}
-use Rattle.format.specs.Base.{pick, Bytes, ok}
+use Rattle.format.specs.Base.{pick, Bytes, Out, ok}
 use Rattle.format.specs.Body.{Body, body-type, body-bytes}
 use Rattle.format.specs.Variant.{file-variant}
 use Rattle.format.specs.Limits.{most-samples}
@@ -21,6 +21,7 @@ use Rattle.format.proofs.FileLaws.{file-exactly}
 use Rattle.format.proofs.FlipLaws.{SameLayout, flip-layout, flip-of-file}
 use Rattle.head_records.specs.Extent.{record-type, record-size}
 use Rattle.head_records.proofs.FoundLaws.{types-found, sizes-found}
+use Rattle.flip_phase.specs.AllRecords.{turn-all, records-bytes, phases-turned, turned-if-read, phases-flipped}
 use Rattle.flip_file.specs.Passes.{bodies-flipped, types-flipped, all-bodies, all-types, types-after, passes}
 use Rattle.flip_file.proofs.PutLaws.{with-types}
 use Rattle.flip_file.proofs.TypesLaws.{types-law}
@@ -45,8 +46,12 @@ module _ (K : ℕ) (member : FileVariant → Bool) (g : File) (p : zero < K) (h 
   abbrev new : List Body
   new = flip-bodies member (file-variant 0) false (g .bodies)
 
+  -- its records with the phases of members flipped
+  abbrev phased : List Body
+  phased = turn-all member (file-variant 0) (g .bodies)
+
   abbrev bytes-of : List Body → List ℕ
-  bytes-of bodies = joined (map (body-bytes (g .samples)) bodies)
+  bytes-of bodies = records-bytes (g .samples) bodies
 
   few : g .samples ≤ most-samples
   few = from-1-to-most most-samples (g .samples) (h .layout .fixed .samples)
@@ -66,9 +71,9 @@ module _ (K : ℕ) (member : FileVariant → Bool) (g : File) (p : zero < K) (h 
   top-length = header-length K f a p (offsets-fit K l p (h .layout)) (h .layout .columns)
 
   -- the first pass
-  bodies-done : all-bodies K f member (in-parts K f a (bytes-of (g .bodies))) ≡ in-parts K f a (bytes-of new)
+  bodies-done : all-bodies K f member (in-parts K f a (bytes-of phased)) ≡ in-parts K f a (bytes-of new)
   bodies-done =
-      let whole : List ℕ = bytes-of (g .bodies) in
+      let whole : List ℕ = bytes-of phased in
       ap₂ (λ (n : ℕ) (x : List ℕ). bodies-flipped K f member n (file-variant 0) (first-record K f) false x) counted (top-parts whole)
       ∙ bodies-law K f member top (l .types) (body-lengths l)
       (λ records v lt. ap (λ (x : List ℕ). record-type K f x v) (sym (top-parts records)) ∙ types-found K l p (h .layout) records v lt)
@@ -98,14 +103,15 @@ module _ (K : ℕ) (member : FileVariant → Bool) (g : File) (p : zero < K) (h 
       = λ offsets lengths. record { offsets = offsets; columns = record { types = map body-type new; lengths = lengths; flags = g .flags } } in
       sym (ap₂ (λ (x : Fixed) (y : Arrays). in-parts K x y (bytes-of new)) (s .same-fixed) (ap₂ arrays (s .same-offsets) (s .same-lengths)))
 
-  pub in-place-law : passes K f member (file-bytes K g) ≡ file-bytes K (flip-file member g)
-  unfolding file-bytes layout-bytes
+  pub in-place-law : passes K f member (phases-turned K member g) ≡ file-bytes K (flip-file member g)
+  unfolding phases-turned
   in-place-law = ap (types-after K f member) bodies-done ∙ types-done ∙ new-bytes
 
--- DEMAND 3, in place: of an accepted file the passes leave its flip
+-- DEMAND 3, in place: of an accepted file, with the phases of members flipped, the passes leave its flip
 pub in-place-is-flip : (K : ℕ) (member : FileVariant → Bool) (bs : List ℕ) (g : File) → zero < K → Bytes bs → read-file K bs ≡ ok g []
-    → passes K (fixed-of (layout-of-file g)) member bs ≡ flip-bytes K member bs
+    → passes K (fixed-of (layout-of-file g)) member (phases-flipped K member bs) ≡ flip-bytes K member bs
+unfolding phases-flipped
 in-place-is-flip K member bs g p y a =
     let h = file-exactly K bs g p y .0 a in
-    ap (passes K (fixed-of (layout-of-file g)) member) (h .1)
+    ap (λ (o : Out File). passes K (fixed-of (layout-of-file g)) member (turned-if-read K member bs o)) a
     ∙ in-place-law K member g p (h .0) ∙ sym (flip-of-file K member g p (h .0)) ∙ ap (flip-bytes K member) (sym (h .1))

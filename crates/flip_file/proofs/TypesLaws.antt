@@ -7,34 +7,24 @@ use mathlib.Core.Bool.{Bool, true, false}
 use mathlib.Core.List.{List, [], _∷_, _++_, map}
 use lib.ListN.{length, getD, set, length-append}
 use lib.Seq.{getD-append-seam, set-append-seam, append-snoc}
-use lib.Dec.{ltb, lit≤}
+use lib.Dec.{ltb}
 use Rattle.format.specs.declared.FileVariant.{FileVariant}
 use Rattle.format.specs.Base.{pick, Below}
-use Rattle.format.specs.Category.{exchange-all}
-use Rattle.format.specs.Packed.{four, eight, limit}
-use Rattle.format.specs.Track.{flip-track}
+use Rattle.format.specs.Packed.{limit}
 use Rattle.format.specs.Body.{type-leans, Body, body-type, body-leans, BodyFits, body-categories, flip-body, flip-type}
 use Rattle.format.specs.Variant.{next-variant}
 use Rattle.format.specs.Layout.{Fixed, form-of, Arrays, in-parts}
 use Rattle.format.specs.File.{next-anchor, BodiesFit, flip-bodies}
-use Rattle.format.proofs.TrackLaws.{track-kind-small}
 use Rattle.format.proofs.BodyLaws.{body-leans-typed}
-use Rattle.format.proofs.FlipTrackLaws.{fits-flip}
 use Rattle.format.proofs.FlipTypeLaws.{flip-type-is, flip-type-stays}
 use Rattle.head_index.specs.VariantsAt.{type-at}
 use Rattle.head_index.specs.Known.{Known}
 use Rattle.head_index.proofs.PlaceLaws.{type-at-is}
 use Rattle.flip_file.specs.Passes.{type-put, touched, type-flipped, types-flipped}
+use Rattle.flip_file.proofs.Ways.{flipped-below}
 use Rattle.flip_file.proofs.PutLaws.{with-types, type-put-is}
 
 -- ---- the arrays with other types
-
-bits-hold-8 : (t : Bool) → 8 ≤ limit (pick t four eight)
-bits-hold-8 true = lit≤ tt
-bits-hold-8 false = lit≤ tt
-
-pub types-hold-8 : (f : Fixed) → 8 ≤ limit (form-of f .type-bits)
-types-hold-8 f = bits-hold-8 (ltb (f .form % 16) 4)
 
 pub known-with : (K : ℕ) (f : Fixed) (a : Arrays) (old new : List ℕ) → Known K f (with-types a old)
     → length new ≡ length old → Below (limit (form-of f .type-bits)) new → Known K f (with-types a new)
@@ -55,6 +45,10 @@ known-with K f a old new h e b = record {
 below-put : (m : ℕ) (xs : List ℕ) (y x : ℕ) (ys : List ℕ) → x < m → Below m (xs ++ y ∷ ys) → Below m (xs ++ x ∷ ys)
 below-put m [] y x ys l h = (l, h .1)
 below-put m (z ∷ xs) y x ys l h = (h .0, below-put m xs y x ys l (h .1))
+
+below-at : (m : ℕ) (xs : List ℕ) (y : ℕ) (ys : List ℕ) → Below m (xs ++ y ∷ ys) → y < m
+below-at m [] y ys h = h .0
+below-at m (z ∷ xs) y ys h = below-at m xs y ys (h .1)
 
 -- ---- the pass
 
@@ -101,9 +95,9 @@ module _ (K : ℕ) (f : Fixed) (member : FileVariant → Bool) (a : Arrays) (rec
       let new : ℕ = body-type (flip-body lent own body) in
       let done′ : List ℕ = done ++ (new ∷ []) in
       let same : done ++ new ∷ later ≡ done′ ++ later = sym (append-snoc done new later) in
-      let below-8 : new < 8
-      = track-kind-small N (exchange-all lent anchor) (flip-track lent own (body .main)) (fits-flip N lent own anchor (body .main) (fit .0)) in
-      let small : new < limit (form-of f .type-bits) = omega (arith, below-8, types-hold-8 f) in
+      let old : type < limit (form-of f .type-bits) = below-at _ done type later (h .all-fit .types-small) in
+      let small : new < limit (form-of f .type-bits)
+      = rw (flip-type-is N lent own anchor body (fit .0)) (flipped-below (ltb (f .form % 16) 4) lent own type old) in
       let count : length (done′ ++ later) ≡ length (done ++ type ∷ later)
       = ap length (sym same) ∙ length-append done (new ∷ later) ∙ sym (length-append done (type ∷ later)) in
       let h′ : Known K f (with-types a (done′ ++ later))

@@ -23,7 +23,6 @@ use Rattle.format.specs.Body.{kind-of, type-leans, flip-kind, flip-type}
 use Rattle.format.specs.Variant.{in-block}
 use Rattle.format.specs.Layout.{Fixed, form-of}
 use Rattle.format.specs.Header.{type-place}
-use Rattle.format.specs.Reply.{member}
 use Rattle.format.proofs.Rules.{split}
 use Rattle.format.proofs.PackedLaws.{limit-positive}
 use Rattle.format.proofs.FlipTypeLaws.{flip-type-small}
@@ -32,11 +31,6 @@ use Rattle.head_blocks.specs.declared.Blocks.{Blocks}
 use Rattle.head_blocks.specs.Parts.{fixed, blocks-of}
 use Rattle.head_columns.proofs.Arrangement.{bits-are}
 use Rattle.flip_file.specs.Passes.{digit-put, type-put, touched, type-flipped}
-
--- ---- a variant's bit of the set
-
-pub member-is : (set : List ℕ) (v : FileVariant) (b : ℕ) → b ≡ getD set (v .0 / 8) 0 → eqb (b / 2 ^ (v .0 % 8) % 2) 1 ≡ member set v
-member-is set v b e = ap (λ (y : ℕ). eqb (y / 2 ^ (v .0 % 8) % 2) 1) e
 
 -- ---- whether a record fits
 
@@ -78,7 +72,7 @@ module _ (lent own : Bool) (type kind new : ℕ) (e : kind ≡ kind-of type) (d 
   type-fits k = omega (arith, type-is, flip-type-small lent own type 32 (omega arith))
 
 -- it has room where the type had
-flipped-below : (half : Bool) (lent own : Bool) (type : ℕ) → type < limit (pick half four eight) → flip-type lent own type < limit (pick half four eight)
+pub flipped-below : (half : Bool) (lent own : Bool) (type : ℕ) → type < limit (pick half four eight) → flip-type lent own type < limit (pick half four eight)
 flipped-below true lent own type l = flip-type-small lent own type 2 l
 flipped-below false lent own type l = flip-type-small lent own type 32 l
 

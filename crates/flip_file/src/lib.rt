@@ -1,8 +1,9 @@
 // The flip of a set of variants in the file's own bytes. 01, Flipping: "The flag bits and every length and offset stay. Only types and record bodies
-// may differ." Two passes over the variants, with no memory but a few numbers: the bodies, with the types as they were; then the types.
+// may differ." Three passes over the variants: the phases of members (flip_phase); the main tracks, with the types as they were; then the types.
 ghost use mathlib.Core.Path.{_≡_};
 ghost use mathlib.Core.Bool.{false};
 ghost use Prim.Native.Nat.{suc, _+_, _%_, _≤_, _<_};
+ghost use lib.ListN.{length};
 ghost use lib.Dec.{leb};
 ghost use Rattle.format.specs.Base.{pick};
 ghost use Rattle.format.specs.Limits.{most-samples, most-variants, variants-to-a-block};
@@ -10,14 +11,16 @@ ghost use Rattle.format.specs.Category.{just-one};
 ghost use Rattle.format.specs.Packed.{four, eight, limit, more};
 ghost use Rattle.format.specs.Layout.{unblocked, form-of};
 ghost use Rattle.format.specs.File.{flip-bytes};
-ghost use Rattle.format.specs.Reply.{member};
+ghost use Rattle.format.specs.Reply.{emptied, member};
 ghost use Rattle.format.specs.Body.{flip-kind, flip-type};
 ghost use Rattle.head_blocks.specs.Parts.{fixed};
-ghost use Rattle.flip_file.specs.Passes.{all-bodies, all-types, digit-put, type-put, touched, type-flipped};
-ghost use Rattle.flip_file.specs.Accepted.{Accepted};
+ghost use Rattle.flip_file.specs.Passes.{all-bodies, all-types, passes, digit-put, type-put, touched, type-flipped};
+ghost use Rattle.flip_phase.specs.Accepted.{Accepted};
 use base_variants::in_block;
 use flip_body::flip_body;
 use flip_body::next_lent;
+use flip_phase::flip_phases;
+use flip_phase::is_member;
 use format::BlockVariant;
 use format::Fields;
 use format::FileVariant;
@@ -25,20 +28,11 @@ use head_blocks::blocks_of;
 use head_blocks::first_record;
 use head_blocks::is_unblocked;
 use head_columns::type_place;
-use head_records::byte_at;
 use head_records::size_of;
 use head_records::stored_type;
 use head_records::type_of;
 use head_types::kind_of;
 use head_types::type_leans;
-
-// 01, Flipping: "The set has bit v for variant v."
-fn is_member(set: &[u8], v: FileVariant) -> bool
-    ensures { λ r. ⌜ r ≡ member (now (set .entry)) v ⌝ }
-{
-    let b = byte_at(set, v.0 / 8);
-    (b >> (v.0 % 8)) % 2 == 1
-}
 
 // Whether a record that starts there and has that size ends in the file.
 fn fits(start: usize, size: usize, length: usize) -> bool
@@ -170,14 +164,24 @@ fn flip_types(file: &mut [u8], f: Fields, set: &[u8])
     }
 }
 
-// A file that the whole-file check accepts, flipped; f are its fields. 01, The header: "Mode 0x02: no offsets, types or lengths".
-pub fn flip_accepted(file: &mut [u8], f: Fields, set: &[u8])
-    requires { ⌜ Accepted variants-to-a-block (now file) f ⌝ }
-    ensures { λ r. ⌜ now (file .exit) ≡ flip-bytes variants-to-a-block (member (now (set .entry))) (now (file .entry)) ⌝ }
+// The main tracks, then the types. 01, The header: "Mode 0x02: no offsets, types or lengths".
+fn flip_main_tracks(file: &mut [u8], f: Fields, set: &[u8])
+    requires { ⌜ (f .variants ≤ most-variants) × (f .samples ≤ most-samples) ⌝ }
+    ensures { λ r. ⌜ now (file .exit) ≡ passes variants-to-a-block (fixed f) (member (now (set .entry))) (now (file .entry)) ⌝ }
 {
     flip_bodies(file, f, set);
     if is_unblocked(f.mode) {
         return;
     }
     flip_types(file, f, set);
+}
+
+// A file that the whole-file check accepts, flipped; f are its fields. The row's first N bytes are zero then.
+pub fn flip_accepted(file: &mut [u8], f: Fields, set: &[u8], row: &mut [u8])
+    requires { ⌜ Accepted variants-to-a-block (now file) f × (f .samples ≤ length (now row)) ⌝ }
+    ensures { λ r. ⌜ (now (file .exit) ≡ flip-bytes variants-to-a-block (member (now (set .entry))) (now (file .entry)))
+        × (now (row .exit) ≡ emptied (f .samples) (now (row .entry))) ⌝ }
+{
+    flip_phases(file, f, set, row);
+    flip_main_tracks(file, f, set);
 }

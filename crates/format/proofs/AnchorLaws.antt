@@ -15,7 +15,7 @@ use Rattle.format.specs.declared.BlockVariant.{BlockVariant}
 use Rattle.format.specs.Base.{pick, Below}
 use Rattle.format.specs.Body.{kind-of, type-leans}
 use Rattle.format.specs.Variant.{file-variant, block-variant, next-variant, block-of, in-block, in-file, last-standing, nearest, anchor}
-use Rattle.format.specs.Layout.{type-allowed, TypesAllowed}
+use Rattle.format.specs.Layout.{bits-allowed, type-allowed, TypesAllowed}
 use Rattle.format.proofs.Rules.{never-both, both, by-test, split}
 
 -- ---- what an anchor is
@@ -96,7 +96,7 @@ types-allowed-at K v (suc i) (type ∷ types) h l =
 
 -- the first of a block does not lean
 pub first-stands : (i : BlockVariant) (type : ℕ) → i .0 ≡ 0 → type-allowed i type ≡ true → type-leans type ≡ false
-first-stands i type e h = go (ltb type 8) (eqb (kind-of type) 5) (type-leans type) (simp (eq-eqb (i .0) 0 e) at h)
+first-stands i type e h = go (bits-allowed type) (eqb (kind-of type) 5) (type-leans type) (simp (eq-eqb (i .0) 0 e) at h)
   where
     go : (a b c : Bool) → a && (not b && not (true && c)) ≡ true → c ≡ false
     go a b false h = refl
@@ -172,14 +172,23 @@ module _ (K : ℕ) (types : List ℕ) (p : zero < K) (h : TypesAllowed K (file-v
     anchor-after-standing s =
         ap (in-file K (block-of K (next-variant v))) (decided ∙ simp s) ∙ ap file-variant (sym number-before)
 
--- a type that the header lets through
-pub allowed : (i : BlockVariant) (type : ℕ) → type-allowed i type ≡ true → (type < 8) × (kind-of type ≡ 5 → ⊥)
-allowed i type h =
-    let p = both (ltb type 8) (not (eqb (kind-of type) 5) && not (eqb (i .0) 0 && type-leans type)) h in
-    let q = both (not (eqb (kind-of type) 5)) (not (eqb (i .0) 0 && type-leans type)) (p .1) in
-    (ltb-true type 8 (p .0), λ e. never-both (q .0) (ap not (eq-eqb (kind-of type) 5 e)))
+-- ---- the bits of an allowed type
 
--- types that the header lets through are below 8
-pub allowed-small : (K : ℕ) (v : FileVariant) (types : List ℕ) → TypesAllowed K v types → Below 8 types
+-- of the bits above its kind only bit 4 may be set
+pub bits-known : (type : ℕ) → bits-allowed type ≡ true → (type % 16 < 8) × (type < 32)
+bits-known type h =
+    let p = both (ltb (type % 16) 8) (ltb type 32) h in
+    (ltb-true (type % 16) 8 (p .0), ltb-true type 32 (p .1))
+
+-- a type that the header lets through
+pub allowed : (i : BlockVariant) (type : ℕ) → type-allowed i type ≡ true → (type % 16 < 8) × (type < 32) × (kind-of type ≡ 5 → ⊥)
+allowed i type h =
+    let p = both (bits-allowed type) (not (eqb (kind-of type) 5) && not (eqb (i .0) 0 && type-leans type)) h in
+    let q = both (not (eqb (kind-of type) 5)) (not (eqb (i .0) 0 && type-leans type)) (p .1) in
+    let b = bits-known type (p .0) in
+    (b .0, b .1, λ e. never-both (q .0) (ap not (eq-eqb (kind-of type) 5 e)))
+
+-- types that the header lets through are below 32
+pub allowed-small : (K : ℕ) (v : FileVariant) (types : List ℕ) → TypesAllowed K v types → Below 32 types
 allowed-small K v [] h = tt
-allowed-small K v (type ∷ types) h = (allowed (in-block K v) type (h .0) .0, allowed-small K (next-variant v) types (h .1))
+allowed-small K v (type ∷ types) h = (allowed (in-block K v) type (h .0) .1, allowed-small K (next-variant v) types (h .1))

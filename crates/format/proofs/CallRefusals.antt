@@ -11,16 +11,18 @@ use borrow.Author.Tests.{ltb-true}
 use Rattle.format.specs.declared.FileVariant.{FileVariant}
 use Rattle.format.specs.Base.{pick, Bytes, Out, need}
 use Rattle.format.specs.Limits.{most-samples}
-use Rattle.format.specs.Classes.{header-numbers, record-numbers, writer-numbers, among}
+use Rattle.format.specs.Classes.{header-numbers, record-numbers, writer-numbers, phased-writer-numbers, among}
 use Rattle.format.specs.PairCode.{Coded, coded, not-coded, code-numbered}
-use Rattle.format.specs.Track.{Kind, array, paired, against-anchor, against-category, no-kind, kind, leans, track-bytes}
-use Rattle.format.specs.Body.{Body, body-categories, read-body, type-leans}
+use Rattle.format.specs.Track.{Kind, array, paired, against-anchor, against-category, no-kind, kind, leans, Track, track-bytes}
+use Rattle.format.specs.Phase.{first-of, rest-of}
+use Rattle.format.specs.Body.{Body, body-bytes, body-categories, read-body, type-leans}
 use Rattle.format.specs.Variant.{file-variant, next-variant, in-block, anchor}
 use Rattle.format.specs.Layout.{from-1-to, first-record, Layout, fixed-of, record-start, TypesAllowed, LayoutObeys}
 use Rattle.format.specs.Header.{read-layout}
-use Rattle.format.specs.File.{next-anchor, read-records, read-all, type-of, read-over, read-variant, variant-leans}
-use Rattle.format.specs.Writer.{pair-track, kind-track, track-for, need-categories, write-record}
-use Rattle.format.specs.Reply.{keeps-work, holds-row, holds-set, with-layout, checked, check-out, need-variant, read-out, lookup-out, view-out, past-last}
+use Rattle.format.specs.File.{next-anchor, read-records, read-all, type-of, over-as, read-over, variant-as, read-variant, variant-leans}
+use Rattle.format.specs.Writer.{pair-track, kind-track, track-for, need-categories, with-track, write-record, phase-allowed, need-phases, phased-body}
+use Rattle.format.specs.Writer.{write-phased}
+use Rattle.format.specs.Reply.{keeps-work, holds-row, holds-set, with-layout, checked, check-out, need-variant, out-as, lookup-out, view-out, past-last}
 use Rattle.format.specs.Reply.{flip-out}
 use Rattle.format.proofs.Rules.{by-test}
 use Rattle.format.proofs.Refuses.{Refuses, Among, HeaderNumber, RecordNumber, every, class-holds, refuses-wider, refuses-need, refuses-map, refuses-bind}
@@ -55,9 +57,11 @@ module _ (K : ℕ) (l : Layout) (p : zero < K) (h : LayoutObeys K l) (y : AllByt
   unfolding read-all
   all-refusals = records-refusals K (l .samples) (first-record K (fixed-of l)) (file-variant 0) [] (l .types) (l .bodies) (h .types) y
 
-  over-refusals : (lent : List ℕ) (v : FileVariant) → v .0 < length (l .bodies) → Refuses RecordNumber (read-over K l lent v)
-  unfolding read-over
-  over-refusals lent v m =
+  -- of one variant over its anchor's categories, whatever is read of it
+  over-refusals : {A : Type 0} (what : ℕ → List ℕ → Body → A) (lent : List ℕ) (v : FileVariant) → v .0 < length (l .bodies)
+      → Refuses RecordNumber (over-as what K l lent v)
+  unfolding over-as
+  over-refusals what lent v m =
       let there : v .0 < length (l .types) = omega (arith, one-type-each K l h) in
       refuses-map RecordNumber _ (read-body (record-start K l (next-variant v)) (l .samples) lent (type-of l v) (getD (l .bodies) (v .0) []))
       (body-refusals (record-start K l (next-variant v)) (l .samples) lent (type-of l v) (getD (l .bodies) (v .0) [])
@@ -65,16 +69,18 @@ module _ (K : ℕ) (l : Layout) (p : zero < K) (h : LayoutObeys K l) (y : AllByt
       (stored-bytes (v .0) (l .bodies) y))
 
   -- of one variant and its anchor
-  pub variant-refusals : (v : FileVariant) → v .0 < length (l .bodies) → Refuses RecordNumber (read-variant K l v)
-  unfolding read-variant
-  variant-refusals v m =
+  pub variant-refusals : {A : Type 0} (what : ℕ → List ℕ → Body → A) (v : FileVariant) → v .0 < length (l .bodies)
+      → Refuses RecordNumber (variant-as what K l v)
+  unfolding variant-as
+  variant-refusals what v m =
       by-test (Refuses RecordNumber) (variant-leans l v)
       (λ t.
       let a : IsAnchor K (l .types) v (anchor K (l .types) v)
       = anchor-is K (l .types) p (h .types) v (omega (arith, one-type-each K l h)) t in
-      refuses-then RecordNumber (read-over K l [] (anchor K (l .types) v)) _ (over-refusals [] (anchor K (l .types) v) (omega (arith, a .before)))
-      (λ lent left. over-refusals lent v m))
-      (λ t. over-refusals [] v m)
+      refuses-then RecordNumber (read-over K l [] (anchor K (l .types) v)) _
+      (over-refusals body-categories [] (anchor K (l .types) v) (omega (arith, a .before)))
+      (λ lent left. over-refusals what lent v m))
+      (λ t. over-refusals what [] v m)
 
 -- ---- the calls on files
 
@@ -115,13 +121,14 @@ check-refusals K file work p y =
     layout-refusals check-numbers K file (holds-row work) (checked K) p y refl refl (λ l h z.
     checked-refusals check-numbers K l refl (all-refusals K l p h z))
 
-pub read-refusals : (K : ℕ) (file : List ℕ) (v : FileVariant) (output work : List ℕ) → zero < K → Bytes file
-    → Refuses (Among read-call-numbers) (read-out K file v output work)
-read-refusals K file v output work p y =
+-- whatever is read of the variant: its categories or its phases
+pub read-refusals : {A : Type 0} (what : ℕ → List ℕ → Body → A) (K : ℕ) (file : List ℕ) (v : FileVariant) (output work : List ℕ) → zero < K → Bytes file
+    → Refuses (Among read-call-numbers) (out-as what K file v output work)
+read-refusals what K file v output work p y =
     layout-refusals read-call-numbers K file (λ (l : Layout). holds-row output l && holds-row work l)
-    (λ (l : Layout). need-variant v l (read-variant K l v)) p y refl refl (λ l h z.
+    (λ (l : Layout). need-variant v l (variant-as what K l v)) p y refl refl (λ l h z.
     variant-there (Among read-call-numbers) v l _ refl (λ m.
-    refuses-wider record-numbers read-call-numbers (read-variant K l v) refl (variant-refusals K l p h z v m)))
+    refuses-wider record-numbers read-call-numbers (variant-as what K l v) refl (variant-refusals K l p h z what v m)))
 
 pub lookup-refusals : (K : ℕ) (file : List ℕ) (v : FileVariant) (sample : ℕ) (work : List ℕ) → zero < K → Bytes file
     → Refuses (Among read-call-numbers) (lookup-out K file v sample work)
@@ -130,7 +137,7 @@ lookup-refusals K file v sample work p y =
     (λ (l : Layout). need-variant v l (need (ltb sample (l .samples)) 11 0 (read-variant K l v))) p y refl refl (λ l h z.
     variant-there (Among read-call-numbers) v l _ refl (λ m.
     refuses-need (Among read-call-numbers) (ltb sample (l .samples)) _ _ _ refl
-    (refuses-wider record-numbers read-call-numbers (read-variant K l v) refl (variant-refusals K l p h z v m))))
+    (refuses-wider record-numbers read-call-numbers (read-variant K l v) refl (variant-refusals K l p h z body-categories v m))))
 
 pub view-refusals : (K : ℕ) (file : List ℕ) (v : FileVariant) → Refuses (Among view-numbers) (view-out K file v)
 view-refusals K file v =
@@ -172,18 +179,55 @@ track-for-refusals (against-anchor inverted) code lent categories = refuses-need
 track-for-refusals (against-category base) code lent categories = refuses-need WriteNumber (eqb code 0) _ _ _ refl tt
 track-for-refusals no-kind code lent categories = refl
 
-categories-refusals : {A : Type 0} (i : ℕ) (categories : List ℕ) (next : Out A) → Refuses WriteNumber next
-    → Refuses WriteNumber (need-categories i categories next)
-unfolding need-categories
-categories-refusals i [] next r = r
-categories-refusals i (c ∷ categories) next r = refuses-need WriteNumber (ltb c 4) _ _ _ refl (categories-refusals (suc i) categories next r)
+module _ (class : List ℕ) (t : every (among class) writer-numbers ≡ true) where
+  -- a class that has the writer's numbers
+  in-class : (number : ℕ) → WriteNumber number → Among class number
+  in-class number h = class-holds (among class) writer-numbers number t h
+
+  categories-refusals : {A : Type 0} (i : ℕ) (categories : List ℕ) (next : Out A) → Refuses (Among class) next
+      → Refuses (Among class) (need-categories i categories next)
+  unfolding need-categories
+  categories-refusals i [] next r = r
+  categories-refusals i (c ∷ categories) next r =
+      refuses-need (Among class) (ltb c 4) _ _ _ (in-class 20 refl) (categories-refusals (suc i) categories next r)
+
+  -- before the categories are looked at
+  with-track-refusals : {A : Type 0} (categories : List ℕ) (number code : ℕ) (lent : List ℕ) (next : Track → Out A)
+      → ((track : Track) → Refuses (Among class) (next track)) → Refuses (Among class) (with-track categories number code lent next)
+  with-track-refusals categories number code lent next r =
+      refuses-need (Among class) (from-1-to most-samples (length categories)) _ _ _ (in-class 4 refl)
+      (refuses-then (Among class) (track-for number code lent categories) _
+      (refuses-wider writer-numbers class (track-for number code lent categories) t (track-for-refusals (kind number) code lent categories)) (λ track left.
+      refuses-need (Among class) (eqb (length lent) (pick (leans number) (length categories) 0)) _ _ _ (in-class 10 refl) (r track)))
 
 pub write-refusals : (categories : List ℕ) (number code : ℕ) (lent : List ℕ) (room : ℕ) → Refuses WriteNumber (write-record categories number code lent room)
 unfolding write-record
 write-refusals categories number code lent room =
-    refuses-need WriteNumber (from-1-to most-samples (length categories)) _ _ _ refl
-    (refuses-then WriteNumber (track-for number code lent categories) _ (track-for-refusals (kind number) code lent categories) (λ track left.
-    refuses-need WriteNumber (eqb (length lent) (pick (leans number) (length categories) 0)) _ _ _ refl
-    (categories-refusals 0 categories _
-    (categories-refusals 0 lent _
-    (refuses-need WriteNumber (leb (length (track-bytes (length categories) track)) room) _ _ _ refl tt)))))
+    with-track-refusals writer-numbers refl categories number code lent _ (λ track.
+    categories-refusals writer-numbers refl 0 categories _
+    (categories-refusals writer-numbers refl 0 lent _
+    (refuses-need WriteNumber (leb (length (track-bytes (length categories) track)) room) _ _ _ refl tt)))
+
+-- ---- the writer of a phased record
+
+abbrev pub PhasedWriteNumber : ℕ → Type 0
+PhasedWriteNumber number = Among phased-writer-numbers number
+
+-- a phase that is not allowed is 22
+need-phases-refusals : {A : Type 0} (i : ℕ) (categories phases : List ℕ) (next : Out A) → Refuses PhasedWriteNumber next
+    → Refuses PhasedWriteNumber (need-phases i categories phases next)
+unfolding need-phases
+need-phases-refusals i [] phases next r = r
+need-phases-refusals i (c ∷ categories) phases next r =
+    refuses-need PhasedWriteNumber (phase-allowed c (first-of phases)) _ _ _ refl (need-phases-refusals (suc i) categories (rest-of phases) next r)
+
+pub write-phased-refusals : (categories phases : List ℕ) (number code : ℕ) (lent : List ℕ) (room : ℕ)
+    → Refuses PhasedWriteNumber (write-phased categories phases number code lent room)
+unfolding write-phased
+write-phased-refusals categories phases number code lent room =
+    with-track-refusals phased-writer-numbers refl categories number code lent _ (λ track.
+    refuses-need PhasedWriteNumber (eqb (length phases) (length categories)) _ _ _ refl
+    (categories-refusals phased-writer-numbers refl 0 categories _
+    (categories-refusals phased-writer-numbers refl 0 lent _
+    (need-phases-refusals 0 categories phases _
+    (refuses-need PhasedWriteNumber (leb (length (body-bytes (length categories) (phased-body categories phases track))) room) _ _ _ refl tt)))))

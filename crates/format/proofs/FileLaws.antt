@@ -2,23 +2,23 @@
 -- Assumes nothing.
 use mathlib.Core.Path.{_≡_, refl, sym, ap, ap₂, _∙_, subst}
 use Prim.Native.Nat.{ℕ, zero, _+_, _≤_, _<_}
-use native.Mathlib.Nat.{mod-eq-of-lt}
-use mathlib.Core.Bool.{Bool}
+use mathlib.Core.Bool.{Bool, true, not, _&&_}
 use mathlib.Core.Logic.{_↔_}
 use mathlib.Core.List.{List, [], _∷_, _++_, map}
 use lib.ListN.{length}
+use lib.Dec.{eqb}
 use native.Mathlib.Omega.{arith}
-use Rattle.format.specs.Base.{Bytes, ok, Below}
+use Rattle.format.specs.declared.FileVariant.{FileVariant}
+use Rattle.format.specs.Base.{Bytes, ok}
 use Rattle.format.specs.Limits.{most-samples}
-use Rattle.format.specs.Body.{Body, body-type, body-bytes, read-body, body-categories, type-leans, body-leans}
-use Rattle.format.specs.Variant.{file-variant}
+use Rattle.format.specs.Body.{Body, body-type, body-bytes, read-body, body-categories, kind-of, type-leans, body-leans}
+use Rattle.format.specs.Variant.{file-variant, next-variant, in-block}
 use Rattle.format.specs.Layout.{header-bytes, first-record, Layout, fixed-of, columns-of, arrays-of, joined, in-parts, layout-bytes}
-use Rattle.format.specs.Layout.{LayoutObeys}
+use Rattle.format.specs.Layout.{bits-allowed, TypesAllowed, LayoutObeys}
 use Rattle.format.specs.Header.{read-layout}
 use Rattle.format.specs.File.{File, layout-of-file, file-bytes, next-anchor, BodiesFit, Obeys, read-records, file-of, read-all, read-file}
-use Rattle.format.proofs.Rules.{Holds, by-bind, by-map, below-after}
-use Rattle.format.proofs.BodyLaws.{body-read-back, IsBody, body-as-written, kept-leaning, body-leans-typed}
-use Rattle.format.proofs.AnchorLaws.{allowed-small}
+use Rattle.format.proofs.Rules.{Holds, both, by-bind, by-map, below-after}
+use Rattle.format.proofs.BodyLaws.{body-read-back, IsBody, body-as-written, kept-leaning, body-leans-typed, type-as-read}
 use Rattle.format.proofs.HeaderLaws.{layout-read-back, IsLayout, layout-as-written}
 use Rattle.format.proofs.OffsetsLaws.{from-1-to-most, types-counted}
 
@@ -47,8 +47,20 @@ pub record AreRecords (N : ℕ) (anchor types : List ℕ) (stored : List (List �
   pub stored-are : stored ≡ map (body-bytes N) bodies
   pub ended : left ≡ []
 
+-- the bits of each type are allowed
+abbrev pub BitsAllowed : List ℕ → Type 0
+BitsAllowed [] = Unit {0}
+BitsAllowed (type ∷ types) = (bits-allowed type ≡ true) × BitsAllowed types
+
+pub allowed-bits : (K : ℕ) (v : FileVariant) (types : List ℕ) → TypesAllowed K v types → BitsAllowed types
+allowed-bits K v [] h = tt
+allowed-bits K v (type ∷ types) h = (
+  both (bits-allowed type) (not (eqb (kind-of type) 5) && not (eqb (in-block K v .0) 0 && type-leans type)) (h .0) .0,
+  allowed-bits K (next-variant v) types (h .1),
+)
+
 -- what is accepted are bodies that fit, written out
-pub records-as-written : (N start : ℕ) (anchor types : List ℕ) (stored : List (List ℕ)) → length types ≡ length stored → Below 8 types
+pub records-as-written : (N start : ℕ) (anchor types : List ℕ) (stored : List (List ℕ)) → length types ≡ length stored → BitsAllowed types
     → AllBytes stored → Holds (AreRecords N anchor types stored) (read-records N start anchor types stored)
 unfolding read-records
 records-as-written N start anchor [] [] n t y = record { fit = tt; types-are = refl; stored-are = refl; ended = refl }
@@ -63,7 +75,7 @@ records-as-written N start anchor (type ∷ types) (bs ∷ stored) n t y =
     (records-as-written N end next types stored (omega arith) (t .1) (y .1)) (λ bodies left₂ v.
     let same : next ≡ next-anchor (body-leans body) anchor (body-categories N anchor body)
     = ap (λ (b : Bool). next-anchor b anchor (body-categories N anchor body)) (sym (kept-leaning w)) in
-    let kept : type ≡ body-type body = sym (w .kind ∙ mod-eq-of-lt (t .0)) in
+    let kept : type ≡ body-type body = sym (type-as-read (t .0) w) in
     record {
       fit = (w .fits, subst (λ (x : List ℕ). BodiesFit N x bodies) same (v .fit));
       types-are = ap₂ _∷_ kept (v .types-are);
@@ -121,7 +133,7 @@ file-as-written K bs p y =
     by-map (AreRecords (l .samples) [] (l .types) (l .bodies)) (IsFile K bs)
     (read-records (l .samples) (first-record K (fixed-of l)) [] (l .types) (l .bodies)) _
     (records-as-written (l .samples) (first-record K (fixed-of l)) [] (l .types) (l .bodies) (one-type-each K l (w .obeys))
-    (allowed-small K (file-variant 0) (l .types) (w .obeys .types)) (bodies-are-bytes K bs l y (w .written)))
+    (allowed-bits K (file-variant 0) (l .types) (w .obeys .types)) (bodies-are-bytes K bs l y (w .written)))
     (λ bodies left₂ v.
     let same : l ≡ layout-of-file (file-of l bodies) = same-layout l bodies (v .types-are) (v .stored-are) in
     record {

@@ -2,8 +2,8 @@
 -- set, two flips are one.
 -- Assumes nothing.
 use mathlib.Core.Path.{_≡_, refl, sym, ap, ap₂, _∙_, subst}
-use Prim.Native.Nat.{ℕ, zero, suc, _+_, _≤_}
-use native.Mathlib.Nat.{add-zero, le-trans}
+use Prim.Native.Nat.{ℕ, zero, suc, _+_, _*_}
+use native.Mathlib.Nat.{add-zero}
 use mathlib.Core.Bool.{Bool, true, false}
 use mathlib.Core.List.{List, [], _∷_, map}
 use lib.ListN.{length, getD, replicate}
@@ -11,14 +11,13 @@ use native.Mathlib.Omega.{arith}
 use Rattle.format.specs.declared.FileVariant.{FileVariant}
 use Rattle.format.specs.Base.{pick, Below}
 use Rattle.format.specs.Category.{exchange-all, just-one}
-use Rattle.format.specs.Body.{Body, body-type, body-bytes, body-categories, body-leans}
+use Rattle.format.specs.Body.{Body, body-type, body-bytes, body-categories, body-leans, body-reading, exchange-reading}
 use Rattle.format.specs.Variant.{file-variant, next-variant, in-block}
 use Rattle.format.specs.Layout.{TypesAllowed}
-use Rattle.format.specs.File.{next-anchor, rows, BodiesFit, flip-bodies}
-use Rattle.format.proofs.TrackLaws.{track-kind-small}
-use Rattle.format.proofs.FlipTrackLaws.{fits-flip, categories-flip, flip-body-twice, flip-body-none, next-anchor-kept, next-anchor-flip}
+use Rattle.format.specs.File.{next-anchor, rows-as, no-reading, BodiesFit, flip-bodies}
+use Rattle.format.proofs.FlipTrackLaws.{body-fits-flip, reading-flip, flip-body-twice, flip-body-none, next-anchor-kept, next-anchor-flip}
 use Rattle.format.proofs.FlipTrackLaws.{next-anchor-just-one}
-use Rattle.format.proofs.FlipTypeLaws.{flip-length, type-allowed-flip, plain-flip}
+use Rattle.format.proofs.FlipTypeLaws.{body-length-kept, type-allowed-flip, flip-type-is, flip-type-small, plain-flip}
 
 -- ---- what fits still fits, over the anchor flipped as its membership says
 
@@ -26,7 +25,7 @@ pub bodies-fit-flip : (N : ℕ) (member : FileVariant → Bool) (v : FileVariant
     → BodiesFit N (exchange-all lent anchor) (flip-bodies member v lent bodies)
 bodies-fit-flip N member v lent anchor [] f = tt
 bodies-fit-flip N member v lent anchor (body ∷ bodies) f = (
-  fits-flip N lent (member v) anchor (body .main) (f .0),
+  body-fits-flip N lent (member v) anchor body (f .0),
   subst (λ (x : List ℕ). BodiesFit N x (flip-bodies member (next-variant v) (next-anchor (body-leans body) lent (member v)) bodies))
       (sym (next-anchor-flip N lent (member v) anchor body))
       (bodies-fit-flip N member (next-variant v) (next-anchor (body-leans body) lent (member v))
@@ -36,19 +35,20 @@ bodies-fit-flip N member v lent anchor (body ∷ bodies) f = (
 -- ---- the rows: those of the set exchanged, all others as before, also where they lean on a member
 
 pub row-flip : (N : ℕ) (member : FileVariant → Bool) (v : FileVariant) (lent : Bool) (anchor : List ℕ) (bodies : List Body) (k : ℕ)
-    → getD (rows N (exchange-all lent anchor) (flip-bodies member v lent bodies)) k []
-    ≡ exchange-all (member (file-variant (v .0 + k))) (getD (rows N anchor bodies) k [])
+    → getD (rows-as body-reading N (exchange-all lent anchor) (flip-bodies member v lent bodies)) k no-reading
+    ≡ exchange-reading (member (file-variant (v .0 + k))) (getD (rows-as body-reading N anchor bodies) k no-reading)
 row-flip N member v lent anchor [] k = refl
 row-flip N member v lent anchor (body ∷ bodies) zero =
-    categories-flip N lent (member v) anchor (body .main)
-    ∙ ap (λ (u : ℕ). exchange-all (member (file-variant u)) (body-categories N anchor body)) (sym (add-zero (v .0)))
+    reading-flip N lent (member v) anchor body
+    ∙ ap (λ (u : ℕ). exchange-reading (member (file-variant u)) (body-reading N anchor body)) (sym (add-zero (v .0)))
 row-flip N member v lent anchor (body ∷ bodies) (suc k) =
     let next : Bool = next-anchor (body-leans body) lent (member v) in
     let row : List ℕ = next-anchor (body-leans body) anchor (body-categories N anchor body) in
     let e : suc (v .0) + k ≡ v .0 + suc k = omega arith in
-    ap (λ (x : List ℕ). getD (rows N x (flip-bodies member (next-variant v) next bodies)) k []) (next-anchor-flip N lent (member v) anchor body)
+    ap (λ (x : List ℕ). getD (rows-as body-reading N x (flip-bodies member (next-variant v) next bodies)) k no-reading)
+    (next-anchor-flip N lent (member v) anchor body)
     ∙ row-flip N member (next-variant v) next row bodies k
-    ∙ ap (λ (u : ℕ). exchange-all (member (file-variant u)) (getD (rows N row bodies) k [])) e
+    ∙ ap (λ (u : ℕ). exchange-reading (member (file-variant u)) (getD (rows-as body-reading N row bodies) k no-reading)) e
 
 -- ---- two flips are one, of those in just one of the two sets
 
@@ -85,25 +85,26 @@ pub flip-lengths : (N : ℕ) (member : FileVariant → Bool) (v : FileVariant) (
     → map length (map (body-bytes N) (flip-bodies member v lent bodies)) ≡ map length (map (body-bytes N) bodies)
 flip-lengths N member v lent [] = refl
 flip-lengths N member v lent (body ∷ bodies) =
-    ap₂ _∷_ (flip-length N lent (member v) (body .main)) (flip-lengths N member (next-variant v) (next-anchor (body-leans body) lent (member v)) bodies)
+    ap₂ _∷_ (body-length-kept N lent (member v) body) (flip-lengths N member (next-variant v) (next-anchor (body-leans body) lent (member v)) bodies)
 
 pub types-allowed-flip : (K N : ℕ) (member : FileVariant → Bool) (v : FileVariant) (lent : Bool) (anchor : List ℕ) (bodies : List Body)
     → BodiesFit N anchor bodies
     → TypesAllowed K v (map body-type bodies) → TypesAllowed K v (map body-type (flip-bodies member v lent bodies))
 types-allowed-flip K N member v lent anchor [] f h = tt
 types-allowed-flip K N member v lent anchor (body ∷ bodies) f h = (
-  type-allowed-flip N lent (member v) anchor (body .main) (in-block K v) (f .0) (h .0),
+  type-allowed-flip N lent (member v) anchor body (in-block K v) (f .0) (h .0),
   types-allowed-flip K N member (next-variant v) (next-anchor (body-leans body) lent (member v))
       (next-anchor (body-leans body) anchor (body-categories N anchor body)) bodies (f .1) (h .1),
 )
 
--- the types of bodies that fit are below 8
-pub types-small : (N m : ℕ) (anchor : List ℕ) (bodies : List Body) → 8 ≤ m → BodiesFit N anchor bodies → Below m (map body-type bodies)
-types-small N m anchor [] l f = tt
-types-small N m anchor (body ∷ bodies) l f = (
-  le-trans (track-kind-small N anchor (body .main) (f .0)) l,
-  types-small N m (next-anchor (body-leans body) anchor (body-categories N anchor body)) bodies l
-      (f .1),
+-- types that fit their bits still do: there are four bits to a type, or eight
+pub types-small-flip : (N n : ℕ) (member : FileVariant → Bool) (v : FileVariant) (lent : Bool) (anchor : List ℕ) (bodies : List Body)
+    → BodiesFit N anchor bodies → Below (n * 8) (map body-type bodies) → Below (n * 8) (map body-type (flip-bodies member v lent bodies))
+types-small-flip N n member v lent anchor [] f h = tt
+types-small-flip N n member v lent anchor (body ∷ bodies) f h = (
+  rw (flip-type-is N lent (member v) anchor body (f .0)) (flip-type-small lent (member v) (body-type body) n (h .0)),
+  types-small-flip N n member (next-variant v) (next-anchor (body-leans body) lent (member v))
+      (next-anchor (body-leans body) anchor (body-categories N anchor body)) bodies (f .1) (h .1),
 )
 
 -- where all types are 0 they stay so
@@ -112,5 +113,5 @@ pub types-zero-flip : (n : ℕ) (member : FileVariant → Bool) (v : FileVariant
 types-zero-flip n member v lent [] h = h
 types-zero-flip zero member v lent (body ∷ bodies) h = absurd (omega (arith, ap length h))
 types-zero-flip (suc n) member v lent (body ∷ bodies) h =
-    ap₂ _∷_ (plain-flip lent (member v) (body .main) (ap (λ (xs : List ℕ). getD xs 0 0) h))
+    ap₂ _∷_ (plain-flip lent (member v) body (ap (λ (xs : List ℕ). getD xs 0 0) h))
     (types-zero-flip n member (next-variant v) (next-anchor (body-leans body) lent (member v)) bodies (cc))

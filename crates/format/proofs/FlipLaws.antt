@@ -2,17 +2,17 @@
 -- before; two flips are one. The lengths and offsets apart, these are the laws of any container.
 -- Assumes nothing.
 use mathlib.Core.Path.{_≡_, refl, sym, ap, ap₂, _∙_, subst}
-use Prim.Native.Nat.{ℕ, zero, _%_, _≤_, _<_}
+use Prim.Native.Nat.{ℕ, zero, _*_, _%_, _<_}
 use native.Mathlib.Nat.{zero-add}
 use mathlib.Core.Bool.{Bool, true, false}
 use mathlib.Core.List.{List, [], map}
 use lib.ListN.{length, length-map}
-use lib.Dec.{ltb, lit≤}
+use lib.Dec.{ltb}
 use Rattle.format.specs.declared.FileVariant.{FileVariant}
 use Rattle.format.specs.Base.{pick, Bytes, ok, map-out}
-use Rattle.format.specs.Category.{exchange-all, just-one}
+use Rattle.format.specs.Category.{just-one}
 use Rattle.format.specs.Packed.{four, eight, limit}
-use Rattle.format.specs.Body.{Body, body-type, body-bytes}
+use Rattle.format.specs.Body.{Body, body-type, body-bytes, Reading, exchange-reading}
 use Rattle.format.specs.Variant.{file-variant}
 use Rattle.format.specs.Layout.{Fixed, form-of, unblocked, block-offsets, Layout, fixed-of, body-lengths, columns-of, arrays-of}
 use Rattle.format.specs.Layout.{FixedObeys, ColumnsFit, ColumnsUnblocked, ColumnsObey}
@@ -20,8 +20,9 @@ use Rattle.format.specs.File.{File, file-of, layout-of-file, file-bytes,
 use Rattle.format.specs.File.{flip-bodies, flip-file, pgen-file, flip-bytes}
 use Rattle.format.proofs.Rules.{Holds}
 use Rattle.format.proofs.CategoryLaws.{exchange-all-none}
+use Rattle.format.proofs.PhaseFlipLaws.{exchange-phases-none}
 use Rattle.format.proofs.FlipBodiesLaws.{bodies-fit-flip, row-flip, flip-bodies-twice, flip-bodies-none, flip-count, flip-lengths}
-use Rattle.format.proofs.FlipBodiesLaws.{types-allowed-flip, types-small, types-zero-flip}
+use Rattle.format.proofs.FlipBodiesLaws.{types-allowed-flip, types-small-flip, types-zero-flip}
 use Rattle.format.proofs.FileLaws.{file-read-back, IsFile, file-as-written}
 use Rattle.format.proofs.ReadsLaws.{row-reads}
 use Rattle.format.proofs.ContainerLaws
@@ -41,9 +42,10 @@ in-either : (b : Bool) {P P′ Q Q′ : Type 0} → (P → P′) → (Q → Q′
 in-either true f g h = f h
 in-either false f g h = g h
 
-bits-hold-8 : (bits : Bool) → 8 ≤ limit (pick bits four eight)
-bits-hold-8 true = lit≤ tt
-bits-hold-8 false = lit≤ tt
+-- the limit of a type is eight times some number
+eights : (bits : Bool) → limit (pick bits four eight) ≡ pick bits 2 32 * 8
+eights true = refl
+eights false = refl
 
 module _ (K : ℕ) (member : FileVariant → Bool) (f : File) where
   abbrev old : Layout
@@ -87,13 +89,17 @@ module _ (K : ℕ) (member : FileVariant → Bool) (f : File) where
     bodies-kept : BodiesFit (f .samples) [] turned
     bodies-kept = bodies-fit-flip (f .samples) member (file-variant 0) false [] (f .bodies) (h .bodies)
 
+    abbrev half : Bool
+    half = ltb (f .form % 16) 4
+
     fit-kept : ColumnsFit (form-of (fixed-of old)) (length (old .bodies)) (columns-of old)
         → ColumnsFit (form-of (fixed-of old)) (length (old .bodies)) (columns-of new)
     fit-kept c = record {
       types-count = counted body-type ∙ c .types-count;
       lengths-count = ap length lengths-kept ∙ c .lengths-count;
       flags-count = c .flags-count;
-      types-small = types-small (f .samples) (limit (form-of (fixed-of old) .type-bits)) [] turned (bits-hold-8 (ltb (f .form % 16) 4)) bodies-kept;
+      types-small = rw (eights half) (types-small-flip (f .samples) (pick half 2 32) member (file-variant 0) false [] (f .bodies) (h .bodies)
+          (rw (eights half) at (c .types-small)));
       lengths-small = rw lengths-kept (c .lengths-small);
       flags-small = c .flags-small;
     }
@@ -112,6 +118,11 @@ module _ (K : ℕ) (member : FileVariant → Bool) (f : File) where
       bodies = bodies-kept;
     }
 
+-- what is not exchanged stays
+exchange-reading-none : (reading : Reading) → exchange-reading false reading ≡ reading
+exchange-reading-none reading =
+    ap₂ (λ (c p : List ℕ). record { categories = c; phases = p }) (exchange-all-none (reading .categories)) (exchange-phases-none (reading .phases))
+
 -- ---- a file in one piece is a container
 
 module _ (K : ℕ) (p : zero < K) where
@@ -123,10 +134,10 @@ module _ (K : ℕ) (p : zero < K) where
 
   -- each row is exchanged exactly if its variant is in the set
   row-flips : (member : FileVariant → Bool) (f : File) (v : FileVariant)
-      → pgen-file K .row (flip-file member f) v ≡ exchange-all (member v) (pgen-file K .row f v)
+      → pgen-file K .row (flip-file member f) v ≡ exchange-reading (member v) (pgen-file K .row f v)
   row-flips member f v =
       row-flip (f .samples) member (file-variant 0) false [] (f .bodies) (v .0)
-      ∙ ap (λ (u : ℕ). exchange-all (member (file-variant u)) (pgen-file K .row f v)) (zero-add (v .0))
+      ∙ ap (λ (u : ℕ). exchange-reading (member (file-variant u)) (pgen-file K .row f v)) (zero-add (v .0))
 
   pub pgen-laws : IsContainer (pgen-file K)
   pgen-laws = record {
@@ -136,7 +147,7 @@ module _ (K : ℕ) (p : zero < K) where
     flip-obeys = λ member f h. flip-obeys K member f h;
     flip-variants = λ member f h. flip-count member (file-variant 0) false (f .bodies);
     flip-row = λ member f h v l. row-flips member f v;
-    exchange-none = λ row. exchange-all-none row;
+    exchange-none = λ row. exchange-reading-none row;
     flip-just-one = λ m m′ f h. ap (file-of (layout-of-file f)) (flip-bodies-twice m m′ (file-variant 0) false false (f .bodies));
     flip-none = λ f h. ap (file-of (layout-of-file f)) (flip-bodies-none (file-variant 0) (f .bodies));
   }
@@ -157,7 +168,7 @@ flip-accepted K member bs f p y e = ContainerLaws.flip-accepted (pgen-file K) (p
 
 -- DEMAND 3: "members read with categories 0 and 2 exchanged, all others as before, even where their stored differences lean on a flipped one"
 pub flip-reads : (K : ℕ) (member : FileVariant → Bool) (bs : List ℕ) (f : File) → zero < K → Bytes bs → read-file K bs ≡ ok f []
-    → (v : FileVariant) → v .0 < length (f .bodies) → read-row K (flip-bytes K member bs) v ≡ map-out (exchange-all (member v)) (read-row K bs v)
+    → (v : FileVariant) → v .0 < length (f .bodies) → read-row K (flip-bytes K member bs) v ≡ map-out (exchange-reading (member v)) (read-row K bs v)
 unfolding flip-bytes
 flip-reads K member bs f p y e v l = ContainerLaws.flip-reads (pgen-file K) (pgen-laws K p) member bs f y e v l
 

@@ -1,6 +1,6 @@
--- The flip of a main track over its flipped anchor: it fits, it stands for the row that it should, and how one flip follows another.
+-- The flip of a main track over its flipped anchor, and of a body: it fits, it stands for the row that it should, and how one flip follows another.
 -- Assumes nothing.
-use mathlib.Core.Path.{_≡_, refl, sym, ap, ap₂, _∙_}
+use mathlib.Core.Path.{_≡_, refl, sym, ap, ap₂, _∙_, subst}
 use Prim.Native.Nat.{ℕ, zero, suc}
 use mathlib.Core.Bool.{Bool, true, false, not, _&&_}
 use mathlib.Core.List.{List, [], _∷_, map}
@@ -12,12 +12,14 @@ use Rattle.format.specs.Difflist.{Entry, Rising}
 use Rattle.format.specs.PairCode.{pair, category-of}
 use Rattle.format.specs.Track.{against-category, kind, Track, plain, one-bit, leaning, sparse, track-leans, off-pair, off-category, off-anchor, rule}
 use Rattle.format.specs.Track.{Fits, apply, track-categories, revalue, image-if, flip-track}
-use Rattle.format.specs.Body.{Body, body-leans, body-categories, flip-body}
+use Rattle.format.specs.Phase.{heterozygous-count, Phases, PhasesObey, phases-over, flip-phases}
+use Rattle.format.specs.Body.{Body, body-leans, body-categories, track-heterozygous, BodyFits, body-reading, exchange-reading, flip-body}
 use Rattle.format.specs.File.{next-anchor}
 use Rattle.format.proofs.CategoryLaws.{just-one-joined, just-one-pairs, just-one-order, just-one-out, exchange-if-twice, exchange-below, exchange-eqb}
 use Rattle.format.proofs.CategoryLaws.{exchange-all-twice, exchange-all-none, exchange-all-length, exchange-all-below, exchange-all-at, exchange-all-set}
 use Rattle.format.proofs.CategoryLaws.{exchange-all-replicate}
 use Rattle.format.proofs.PairLaws.{categories-of-image, in-pair-image, image-if-twice, turns-twice, bits-turned-twice, bits-not-turned}
+use Rattle.format.proofs.PhaseFlipLaws.{heterozygous-exchange, flip-phases-obey, flip-phases-twice, flip-phases-none, phases-over-flip}
 
 -- ---- it fits
 
@@ -126,11 +128,32 @@ flip-track-none (sparse category es) = ap (sparse category) (revalue-none es)
 
 -- the same of bodies
 pub flip-body-twice : (a o a′ o′ : Bool) (body : Body) → flip-body a o (flip-body a′ o′ body) ≡ flip-body (just-one a a′) (just-one o o′) body
-flip-body-twice a o a′ o′ body = ap (λ (t : Track). record { main = t }) (flip-track-twice a o a′ o′ (body .main))
+flip-body-twice a o a′ o′ body =
+    ap₂ (λ (t : Track) (p : Phases). record { main = t; phases = p }) (flip-track-twice a o a′ o′ (body .main)) (flip-phases-twice o o′ (body .phases))
 
 -- and no flip leaves a body
 pub flip-body-none : (body : Body) → flip-body false false body ≡ body
-flip-body-none body = ap (λ (t : Track). record { main = t }) (flip-track-none (body .main))
+flip-body-none body = ap₂ (λ (t : Track) (p : Phases). record { main = t; phases = p }) (flip-track-none (body .main)) (flip-phases-none (body .phases))
+
+-- a body that fits still fits once it is flipped, over its anchor flipped as its own membership says
+pub body-fits-flip : (N : ℕ) (lent member : Bool) (anchor : List ℕ) (body : Body) → BodyFits N anchor body
+    → BodyFits N (exchange-all lent anchor) (flip-body lent member body)
+body-fits-flip N lent member anchor body f = (
+  fits-flip N lent member anchor (body .main) (f .0),
+  subst (λ (H : ℕ). PhasesObey H (flip-phases member (body .phases)))
+      (sym (ap heterozygous-count (categories-flip N lent member anchor (body .main))
+      ∙ heterozygous-exchange member (body-categories N anchor body)))
+      (flip-phases-obey (track-heterozygous N anchor (body .main)) (body .phases) member (f .1)),
+)
+
+-- and reads with categories 0 and 2, and phases 1 and 2, exchanged if it is a member
+pub reading-flip : (N : ℕ) (lent member : Bool) (anchor : List ℕ) (body : Body)
+    → body-reading N (exchange-all lent anchor) (flip-body lent member body) ≡ exchange-reading member (body-reading N anchor body)
+reading-flip N lent member anchor body =
+    ap (λ (row : List ℕ). record { categories = row; phases = phases-over row (flip-phases member (body .phases)) })
+    (categories-flip N lent member anchor (body .main))
+    ∙ ap (λ (phases : List ℕ). record { categories = exchange-all member (body-categories N anchor body); phases = phases })
+    (phases-over-flip member (body-categories N anchor body) (body .phases))
 
 -- ---- what the next record leans on
 

@@ -1,8 +1,7 @@
 -- What a flip keeps of a track: its length in bytes, and that its type is allowed; and what it does to the type's number.
 -- Assumes nothing.
 use mathlib.Core.Path.{_≡_, refl, sym, ap, ap₂, _∙_}
-use Prim.Native.Nat.{ℕ, zero, suc, _+_, _-_, _*_, _/_, _<_}
-use native.Mathlib.Nat.{div-eq-of-lt}
+use Prim.Native.Nat.{ℕ, zero, suc, _+_, _-_, _*_, _%_, _<_}
 use mathlib.Core.Bool.{Bool, true, false, not, _&&_, _||_}
 use mathlib.Core.List.{List, [], _∷_, _++_, map}
 use lib.ListN.{length, getD, length-append, length-map}
@@ -19,14 +18,16 @@ use Rattle.format.specs.Difflist.{Entry, number-width, heads, sizes-afte
 use Rattle.format.specs.PairCode.{pair}
 use Rattle.format.specs.Track.{against-category, kind, Track, plain, one-bit, leaning, sparse, track-kind, track-leans, Fits, bit-number, track-bytes}
 use Rattle.format.specs.Track.{revalue, flip-track, leans}
-use Rattle.format.specs.Body.{kind-of, type-leans, Body, body-type, BodyFits, flip-body, flip-kind, flip-type}
-use Rattle.format.specs.Layout.{type-allowed}
+use Rattle.format.specs.Phase.{has-phases, phases-bytes, flip-phases}
+use Rattle.format.specs.Body.{kind-of, type-leans, Body, body-type, body-leans, body-bytes, BodyFits, flip-body, flip-kind, flip-type}
+use Rattle.format.specs.Layout.{bits-allowed, type-allowed}
 use Rattle.format.proofs.Rules.{never-both, by-test}
 use Rattle.format.proofs.CategoryLaws.{exchange-all-length}
 use Rattle.format.proofs.PackedLaws.{packed-length}
 use Rattle.format.proofs.TrackLaws.{track-kind-small, leans-track}
 use Rattle.format.proofs.BodyLaws.{body-kind}
-use Rattle.format.proofs.FlipTrackLaws.{fits-flip, leans-flip}
+use Rattle.format.proofs.FlipTrackLaws.{leans-flip, body-fits-flip}
+use Rattle.format.proofs.PhaseFlipLaws.{flip-phases-has, flip-phases-length}
 
 -- ---- of a list only the values change
 
@@ -103,6 +104,13 @@ flip-length N lent member (one-bit c bits es) =
 flip-length N lent member (leaning inverted es) = list-length-kept lent (number-width N) es
 flip-length N lent member (sparse category es) = list-length-kept member (number-width N) es
 
+-- and a flipped body
+pub body-length-kept : (N : ℕ) (lent member : Bool) (body : Body) → length (body-bytes N (flip-body lent member body)) ≡ length (body-bytes N body)
+body-length-kept N lent member body =
+    length-append (track-bytes N (flip-track lent member (body .main))) (phases-bytes (flip-phases member (body .phases)))
+    ∙ ap₂ _+_ (flip-length N lent member (body .main)) (flip-phases-length member (body .phases))
+    ∙ sym (length-append (track-bytes N (body .main)) (phases-bytes (body .phases)))
+
 -- ---- types
 
 -- and not 5
@@ -119,28 +127,44 @@ track-kind-not-5 N anchor (sparse (suc zero) es) f =
 track-kind-not-5 N anchor (sparse (suc (suc category)) es) f =
     ne-eqb (suc (suc (suc (suc (suc (suc category)))))) 5 (λ e. omega arith)
 
--- so its type is allowed, except where a block's first variant leans
-pub track-allowed : (N : ℕ) (anchor : List ℕ) (t : Track) (i : BlockVariant) → Fits N anchor t
-    → type-allowed i (track-kind t) ≡ not (eqb (i .0) 0 && track-leans t)
-track-allowed N anchor t i f =
-    rw (lt-ltb (track-kind t) 8 (track-kind-small N anchor t f), body-kind N anchor (record { main = t }) f, track-kind-not-5 N anchor t f, leans-track t)
+-- so the type of a body that fits is allowed, except where a block's first variant leans
+pub body-allowed : (N : ℕ) (anchor : List ℕ) (body : Body) (i : BlockVariant) → BodyFits N anchor body
+    → type-allowed i (body-type body) ≡ not (eqb (i .0) 0 && body-leans body)
+body-allowed N anchor body i f =
+    rw (bits-fine (has-phases (body .phases)), body-kind N anchor body f, track-kind-not-5 N anchor (body .main) (f .0), leans-track (body .main)) refl
+  where
+    k : ℕ
+    k = track-kind (body .main)
+
+    small : k < 8
+    small = track-kind-small N anchor (body .main) (f .0)
+
+    bits-fine : (b : Bool) → bits-allowed (k + pick b 16 0) ≡ true
+    bits-fine true = rw (lt-ltb ((k + 16) % 16) 8 (omega (arith, small)), lt-ltb (k + 16) 32 (omega (arith, small))) refl
+    bits-fine false = rw (lt-ltb ((k + 0) % 16) 8 (omega (arith, small)), lt-ltb (k + 0) 32 (omega (arith, small))) refl
 
 -- where a type was allowed, the flipped one is
-pub type-allowed-flip : (N : ℕ) (lent member : Bool) (anchor : List ℕ) (t : Track) (i : BlockVariant) → Fits N anchor t → type-allowed i (track-kind t) ≡ true
-    → type-allowed i (track-kind (flip-track lent member t)) ≡ true
-type-allowed-flip N lent member anchor t i f h =
-    track-allowed N (exchange-all lent anchor) (flip-track lent member t) i (fits-flip N lent member anchor t f)
-    ∙ ap (λ (b : Bool). not (eqb (i .0) 0 && b)) (leans-flip lent member t)
-    ∙ sym (track-allowed N anchor t i f)
+pub type-allowed-flip : (N : ℕ) (lent member : Bool) (anchor : List ℕ) (body : Body) (i : BlockVariant) → BodyFits N anchor body
+    → type-allowed i (body-type body) ≡ true → type-allowed i (body-type (flip-body lent member body)) ≡ true
+type-allowed-flip N lent member anchor body i f h =
+    body-allowed N (exchange-all lent anchor) (flip-body lent member body) i (body-fits-flip N lent member anchor body f)
+    ∙ ap (λ (b : Bool). not (eqb (i .0) 0 && b)) (leans-flip lent member (body .main))
+    ∙ sym (body-allowed N anchor body i f)
     ∙ h
 
--- a track of type 0 keeps it: so do all those of a file with no blocks
-pub plain-flip : (lent member : Bool) (t : Track) → track-kind t ≡ 0 → track-kind (flip-track lent member t) ≡ 0
-plain-flip lent member (plain categories) h = refl
-plain-flip lent member (one-bit c bits es) h = absurd (omega arith)
-plain-flip lent member (leaning true es) h = absurd (omega arith)
-plain-flip lent member (leaning false es) h = absurd (omega arith)
-plain-flip lent member (sparse category es) h = absurd (omega arith)
+-- a track of kind 0 keeps it, and a body of type 0: so do all those of a file with no blocks
+kind-0-flip : (lent member : Bool) (t : Track) → track-kind t ≡ 0 → track-kind (flip-track lent member t) ≡ 0
+kind-0-flip lent member (plain categories) h = refl
+kind-0-flip lent member (one-bit c bits es) h = absurd (omega arith)
+kind-0-flip lent member (leaning true es) h = absurd (omega arith)
+kind-0-flip lent member (leaning false es) h = absurd (omega arith)
+kind-0-flip lent member (sparse category es) h = absurd (omega arith)
+
+pub plain-flip : (lent member : Bool) (body : Body) → body-type body ≡ 0 → body-type (flip-body lent member body) ≡ 0
+plain-flip lent member body h =
+    let kind-is : track-kind (body .main) ≡ 0 = omega (arith, h) in
+    let none : _≡_ {A = ℕ} (pick (has-phases (body .phases)) 16 0) 0 = omega (arith, h) in
+    ap₂ _+_ (kind-0-flip lent member (body .main) kind-is) (ap (λ (b : Bool). pick b 16 0) (flip-phases-has member (body .phases)) ∙ none)
 
 -- ---- what a flip does to a type's number
 
@@ -173,8 +197,18 @@ flip-kind-is lent false (sparse (suc (suc (suc (suc category)))) es) = refl
 pub flip-type-is : (N : ℕ) (lent member : Bool) (anchor : List ℕ) (body : Body) → BodyFits N anchor body
     → body-type (flip-body lent member body) ≡ flip-type lent member (body-type body)
 flip-type-is N lent member anchor body f =
-    let high : body-type body / 8 ≡ 0 = div-eq-of-lt (track-kind-small N anchor (body .main) f) in
-    flip-kind-is lent member (body .main) ∙ omega (arith, ap (flip-kind lent member) (body-kind N anchor body f))
+    ap₂ (λ (k : ℕ) (b : Bool). k + pick b 16 0) (flip-kind-is lent member (body .main)) (flip-phases-has member (body .phases))
+    ∙ by (has-phases (body .phases)) (body-kind N anchor body f)
+  where
+    k : ℕ
+    k = track-kind (body .main)
+
+    small : k < 8
+    small = track-kind-small N anchor (body .main) (f .0)
+
+    by : (b : Bool) → kind-of (k + pick b 16 0) ≡ k → flip-kind lent member k + pick b 16 0 ≡ flip-type lent member (k + pick b 16 0)
+    by true e = rw e (omega (arith, small))
+    by false e = rw e (omega (arith, small))
 
 -- a record that is not in the set, nor leans on a member of it, keeps its type
 kind-stays : (lent member : Bool) (number : ℕ) → member || (leans number && lent) ≡ false → flip-kind lent member number ≡ number

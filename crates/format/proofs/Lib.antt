@@ -17,6 +17,8 @@ pub mod AnchorLaws
 pub mod EntriesLaws
 pub mod DifflistLaws
 pub mod TrackLaws
+pub mod PhaseLaws
+pub mod PhaseFlipLaws
 pub mod BodyLaws
 pub mod RowLaws
 pub mod FileLaws
@@ -25,7 +27,9 @@ pub mod FlipTrackLaws
 pub mod FlipTypeLaws
 pub mod FlipBodiesLaws
 pub mod FlipLaws
+pub mod PhaseWriterLaws
 pub mod WriteReadLaws
+pub mod WritePhasedLaws
 pub mod Refusals
 pub mod HeaderRefusals
 pub mod Refuses

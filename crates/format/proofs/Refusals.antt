@@ -16,7 +16,8 @@ use Rattle.format.specs.Difflist.{Entry, Rule, groups, number-width, Par
 use Rattle.format.specs.PairCode.{Coded, coded, not-coded, code-numbered}
 use Rattle.format.specs.Track.{Kind, array, paired, against-anchor, against-category, no-kind, kind, Track, plain, one-bit, leaning, sparse, off-pair}
 use Rattle.format.specs.Track.{off-category, off-anchor, rule, bit-set, as-read, read-pair-code, read-listed, read-kind, read-track}
-use Rattle.format.specs.Body.{kind-of, Body, ended, read-body}
+use Rattle.format.specs.Phase.{first-count, presence, ones, read-phase-track, phased, read-phases}
+use Rattle.format.specs.Body.{kind-of, type-phased, Body, track-heterozygous, ended, read-body}
 use Rattle.format.specs.Layout.{type-allowed}
 use Rattle.format.proofs.Rules.{by-test, below-after}
 use Rattle.format.proofs.Refuses.{Refuses, RecordNumber, refuses-need, refuses-map, refuses-bind, refuses-then}
@@ -171,6 +172,18 @@ kind-refusals end N anchor (against-anchor inverted) bs h y = listed-refusals (l
 kind-refusals end N anchor (against-category category) bs h y = listed-refusals (sparse category) end N (off-category category) bs y
 kind-refusals end N anchor no-kind bs h y = absurd (h refl)
 
+-- a phase track with 12 or 18
+phase-track-refusals : (end H : ℕ) (bs : List ℕ) → Refuses RecordNumber (read-phase-track end H bs)
+unfolding read-phase-track
+phase-track-refusals end H bs =
+    refuses-then RecordNumber (read-packed end one (first-count H bs) bs) _ (packed-refusals end one (first-count H bs) bs) (λ first left.
+    refuses-map RecordNumber _ (read-packed end one (ones (presence H first)) left) (packed-refusals end one (ones (presence H first)) left))
+
+-- with it, if the record has one
+phases-refusals : (has : Bool) (end H : ℕ) (bs : List ℕ) → Refuses RecordNumber (read-phases has end H bs)
+phases-refusals has end H bs =
+    by-test (Refuses RecordNumber) has (λ t. refuses-map RecordNumber phased (read-phase-track end H bs) (phase-track-refusals end H bs)) (λ t. tt)
+
 -- bytes that are left are 13
 ended-refusals : (end : ℕ) (body : Body) (left : List ℕ) → Refuses RecordNumber (ended end body left)
 ended-refusals end body [] = tt
@@ -182,7 +195,10 @@ pub body-refusals : (end N : ℕ) (anchor : List ℕ) (type : ℕ) (bs : List �
 unfolding read-body
 body-refusals end N anchor type bs h y =
     refuses-then RecordNumber (read-track end N anchor (kind-of type) bs) _ (kind-refusals end N anchor (kind (kind-of type)) bs h y)
-    (λ t left. ended-refusals end (record { main = t }) left)
+    (λ track left.
+    refuses-then RecordNumber (read-phases (type-phased type) end (track-heterozygous N anchor track) left) _
+    (phases-refusals (type-phased type) end (track-heterozygous N anchor track) left) (λ phases left₁.
+    ended-refusals end (record { main = track; phases = phases }) left₁))
 
 -- below 8 only 5 is no kind
 kind-there : (number : ℕ) → number < 8 → (number ≡ 5 → ⊥) → kind number ≡ no-kind → ⊥
@@ -198,4 +214,4 @@ kind-there (suc (suc (suc (suc (suc (suc (suc (suc n)))))))) l h k = omega arith
 
 -- what the header allows has a kind that there is
 pub allowed-kind : (i : BlockVariant) (type : ℕ) → type-allowed i type ≡ true → kind (kind-of type) ≡ no-kind → ⊥
-allowed-kind i type h k = kind-there (kind-of type) (omega arith) (allowed i type h .1) k
+allowed-kind i type h k = kind-there (kind-of type) (omega arith) (allowed i type h .2) k

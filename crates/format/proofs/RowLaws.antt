@@ -1,17 +1,21 @@
 -- What a record stands for: a row of N categories. A record that does not lean has no use for an anchor.
 -- Assumes nothing.
-use mathlib.Core.Path.{_≡_, refl, ap, _∙_}
+use mathlib.Core.Path.{_≡_, refl, ap, _∙_, subst}
 use Prim.Native.Nat.{ℕ, zero, suc, _<_}
 use mathlib.Core.Bool.{Bool, true, false}
 use mathlib.Core.List.{List, [], _∷_, map}
 use lib.ListN.{length, set, replicate, length-map, length-set, length-replicate}
-use Rattle.format.specs.Base.{Below, Out, bind}
-use Rattle.format.specs.Difflist.{Entry, Rule, Rising}
+use Rattle.format.specs.Base.{Below, Out, ok, refused, bind}
+use Rattle.format.specs.Packed.{one, two, read-packed}
+use Rattle.format.specs.Difflist.{Entry, Rule, Rising, number-width, read-list}
 use Rattle.format.specs.PairCode.{PairCode, category-of}
 use Rattle.format.specs.Track.{Kind, array, paired, against-anchor, against-category, no-kind, kind, leans-kind, Track, plain, one-bit, leaning, sparse}
 use Rattle.format.specs.Track.{off-pair, off-category, off-anchor, rule, Fits, read-kind, apply, track-categories, track-leans}
-use Rattle.format.specs.Body.{Body, BodyFits, ended, read-body, body-categories, type-leans, kind-of, body-leans}
-use Rattle.format.proofs.Rules.{never-both}
+use Rattle.format.specs.Track.{read-pair-code, read-listed}
+use Rattle.format.specs.Phase.{heterozygous-count, PhasesObey, read-phases, phases-over}
+use Rattle.format.specs.Body.{Body, BodyFits, ended, read-after, read-body, body-categories, body-phases, body-reading}
+use Rattle.format.specs.Body.{type-leans, type-phased, kind-of, body-leans}
+use Rattle.format.proofs.Rules.{Holds, never-both, by-bind, by-map}
 use Rattle.format.proofs.CategoryLaws.{exchange-all-length, exchange-all-below}
 use Rattle.format.proofs.TrackLaws.{category-below}
 use Rattle.format.proofs.PairLaws.{category-of-below}
@@ -69,7 +73,7 @@ track-row N anchor (sparse category es) f a =
 -- the same of a body
 pub body-row : (N : ℕ) (anchor : List ℕ) (body : Body) → BodyFits N anchor body → (body-leans body ≡ true → IsRow N anchor)
     → IsRow N (body-categories N anchor body)
-body-row N anchor body f a = track-row N anchor (body .main) f a
+body-row N anchor body f a = track-row N anchor (body .main) (f .0) a
 
 -- ---- a record that does not lean
 
@@ -83,13 +87,6 @@ kind-unused end N anchor other (against-anchor inverted) bs h = never-both refl 
 kind-unused end N anchor other (against-category category) bs h = refl
 kind-unused end N anchor other no-kind bs h = refl
 
--- it is read alike over every anchor
-pub anchor-unused : (end N : ℕ) (anchor other : List ℕ) (type : ℕ) (bs : List ℕ) → type-leans type ≡ false
-    → read-body end N anchor type bs ≡ read-body end N other type bs
-unfolding read-body
-anchor-unused end N anchor other type bs h =
-    ap (λ (m : Out Track). bind m (λ track left. ended end (record { main = track }) left)) (kind-unused end N anchor other (kind (kind-of type)) bs h)
-
 -- it stands for the same row
 pub categories-anchor-unused : (N : ℕ) (anchor other : List ℕ) (t : Track) → track-leans t ≡ false
     → track-categories N anchor t ≡ track-categories N other t
@@ -97,6 +94,49 @@ categories-anchor-unused N anchor other (plain categories) h = refl
 categories-anchor-unused N anchor other (one-bit c bits es) h = refl
 categories-anchor-unused N anchor other (leaning inverted es) h = never-both refl h
 categories-anchor-unused N anchor other (sparse category es) h = refl
+
+abbrev Any : {A : Type 0} → A → List ℕ → Type 0
+Any a left = Unit {0}
+
+abbrev Stands : Track → List ℕ → Type 0
+Stands t left = track-leans t ≡ false
+
+anything : {A : Type 0} (m : Out A) → Holds Any m
+anything (ok a left) = tt
+anything (refused why) = tt
+
+-- what is read of a kind that does not lean is a track that does not
+kind-stands : (end N : ℕ) (anchor : List ℕ) (k : Kind) (bs : List ℕ) → leans-kind k ≡ false
+    → Holds (λ (t : Track) (left : List ℕ). track-leans t ≡ false) (read-kind end N anchor k bs)
+unfolding read-kind read-listed
+kind-stands end N anchor array bs h = by-map Any Stands (read-packed end two N bs) plain (anything (read-packed end two N bs)) (λ vs left w. refl)
+kind-stands end N anchor paired bs h =
+    by-bind Any Stands (read-pair-code end bs) _ (anything (read-pair-code end bs)) (λ c left₁ w.
+    by-bind Any Stands (read-packed end one N left₁) _ (anything (read-packed end one N left₁)) (λ bits left₂ w₂.
+    let list : Out (List Entry) = read-list (rule N (off-pair c)) (number-width N) end left₂ in
+    by-map Any Stands list _ (anything list) (λ es left w₃. refl)))
+kind-stands end N anchor (against-anchor inverted) bs h = never-both refl h
+kind-stands end N anchor (against-category category) bs h =
+    let list : Out (List Entry) = read-list (rule N (off-category category)) (number-width N) end bs in
+    by-map Any Stands list _ (anything list) (λ es left w. refl)
+kind-stands end N anchor no-kind bs h = tt
+
+-- the tracks after the main one are read alike where its categories are the same
+after-unused : (end N : ℕ) (anchor other : List ℕ) (type : ℕ) (m : Out Track)
+    → Holds (λ (t : Track) (left : List ℕ). track-leans t ≡ false) m
+    → bind m (λ track left. read-after end N anchor type track left) ≡ bind m (λ track left. read-after end N other type track left)
+after-unused end N anchor other type (ok t left) h =
+    ap (λ (row : List ℕ). bind (read-phases (type-phased type) end (heterozygous-count row) left)
+    (λ phases left. ended end (record { main = t; phases = phases }) left)) (categories-anchor-unused N anchor other t h)
+after-unused end N anchor other type (refused why) h = refl
+
+-- it is read alike over every anchor
+pub anchor-unused : (end N : ℕ) (anchor other : List ℕ) (type : ℕ) (bs : List ℕ) → type-leans type ≡ false
+    → read-body end N anchor type bs ≡ read-body end N other type bs
+unfolding read-body
+anchor-unused end N anchor other type bs h =
+    ap (λ (m : Out Track). bind m (λ track left. read-after end N anchor type track left)) (kind-unused end N anchor other (kind (kind-of type)) bs h)
+    ∙ after-unused end N anchor other type (read-kind end N other (kind (kind-of type)) bs) (kind-stands end N other (kind (kind-of type)) bs h)
 
 -- the same of a body
 pub row-anchor-unused : (N : ℕ) (anchor other : List ℕ) (body : Body) → body-leans body ≡ false
@@ -112,4 +152,17 @@ fits-anchor-unused N anchor other (sparse category es) h f = f
 
 -- the same of a body
 pub body-fits-anchor-unused : (N : ℕ) (anchor other : List ℕ) (body : Body) → body-leans body ≡ false → BodyFits N anchor body → BodyFits N other body
-body-fits-anchor-unused N anchor other body h f = fits-anchor-unused N anchor other (body .main) h f
+body-fits-anchor-unused N anchor other body h f = (
+  fits-anchor-unused N anchor other (body .main) h (f .0),
+  subst (λ (row : List ℕ). PhasesObey (heterozygous-count row) (body .phases)) (categories-anchor-unused N anchor other (body .main) h) (f .1),
+)
+
+-- whatever is read of it is the same over every anchor
+pub phases-anchor-unused : (N : ℕ) (anchor other : List ℕ) (body : Body) → body-leans body ≡ false
+    → body-phases N anchor body ≡ body-phases N other body
+phases-anchor-unused N anchor other body h = ap (λ (row : List ℕ). phases-over row (body .phases)) (categories-anchor-unused N anchor other (body .main) h)
+
+pub reading-anchor-unused : (N : ℕ) (anchor other : List ℕ) (body : Body) → body-leans body ≡ false
+    → body-reading N anchor body ≡ body-reading N other body
+reading-anchor-unused N anchor other body h =
+    ap (λ (row : List ℕ). record { categories = row; phases = phases-over row (body .phases) }) (categories-anchor-unused N anchor other (body .main) h)

@@ -1,12 +1,14 @@
--- A record's type, and its body: its main track, and nothing after it.
+-- A record's type, and its body: its main track, then its phase track if it has one, and nothing after it.
 -- Assumes nothing.
 use Prim.Native.Nat.{ℕ, suc, _+_, _-_, _*_, _/_, _%_}
 use mathlib.Core.Bool.{Bool}
-use mathlib.Core.List.{List, [], _∷_}
+use mathlib.Core.List.{List, [], _∷_, _++_}
 use lib.ListN.{length, getD}
+use lib.Dec.{eqb}
 use Rattle.format.specs.Base.{pick, Out, ok, refuse, bind}
-use Rattle.format.specs.Category.{just-one}
+use Rattle.format.specs.Category.{exchange-all, just-one}
 use Rattle.format.specs.Track.{leans, Track, track-kind, track-leans, track-bytes, read-track, track-categories, flip-track, Fits}
+use Rattle.format.specs.Phase.{heterozygous-count, exchange-phases, Phases, has-phases, PhasesObey, phases-bytes, read-phases, phases-over, flip-phases}
 
 -- 01, The header: "A type's low three bits are its kind."
 abbrev pub kind-of : ℕ → ℕ
@@ -16,36 +18,69 @@ kind-of type = type % 8
 abbrev pub type-leans : ℕ → Bool
 type-leans type = leans (kind-of type)
 
+-- 02, Ask 1: "record type bit 4" says that a phase track follows the main track
+abbrev pub type-phased : ℕ → Bool
+type-phased type = eqb (type / 16 % 2) 1
+
 pub record Body : Type 0 where
   pub main : Track
+  pub phases : Phases
 
--- 01, The header: "all its other bits are 0"
+-- 01, The header: "A type's low three bits are its kind"; bit 4 is its phase track, and all its other bits are 0
 abbrev pub body-type : Body → ℕ
-body-type body = track-kind (body .main)
+body-type body = track-kind (body .main) + pick (has-phases (body .phases)) 16 0
 
 abbrev pub body-leans : Body → Bool
 body-leans body = track-leans (body .main)
 
 abbrev pub body-bytes : ℕ → Body → List ℕ
-body-bytes N body = track-bytes N (body .main)
+body-bytes N body = track-bytes N (body .main) ++ phases-bytes (body .phases)
+
+abbrev pub body-categories : ℕ → List ℕ → Body → List ℕ
+body-categories N anchor body = track-categories N anchor (body .main)
+
+-- H, of the record's own row
+abbrev pub track-heterozygous : ℕ → List ℕ → Track → ℕ
+track-heterozygous N anchor track = heterozygous-count (track-categories N anchor track)
 
 abbrev pub BodyFits : ℕ → List ℕ → Body → Type 0
-BodyFits N anchor body = Fits N anchor (body .main)
+BodyFits N anchor body = Fits N anchor (body .main) × PhasesObey (track-heterozygous N anchor (body .main)) (body .phases)
 
 -- 01, Replies: "Lastly 13": "record has bytes left", at the "first of them"
 abbrev pub ended : ℕ → Body → List ℕ → Out Body
 ended end body [] = ok body []
 ended end body (b ∷ left) = refuse 13 (end - suc (length left))
 
+-- the tracks after the main one, of a record of a type
+abbrev pub read-after : ℕ → ℕ → List ℕ → ℕ → Track → List ℕ → Out Body
+read-after end N anchor type track bs =
+    bind (read-phases (type-phased type) end (track-heterozygous N anchor track) bs) (λ phases left.
+    ended end (record { main = track; phases = phases }) left)
+
 -- the record that ends at `end` in the file, of a type, over its anchor's categories
 unfoldable pub read-body : ℕ → ℕ → List ℕ → ℕ → List ℕ → Out Body
-read-body end N anchor type bs = bind (read-track end N anchor (kind-of type) bs) (λ track left. ended end (record { main = track }) left)
+read-body end N anchor type bs = bind (read-track end N anchor (kind-of type) bs) (λ track left. read-after end N anchor type track left)
 
-abbrev pub body-categories : ℕ → List ℕ → Body → List ℕ
-body-categories N anchor body = track-categories N anchor (body .main)
+-- ---- what it is read as
+
+abbrev pub body-phases : ℕ → List ℕ → Body → List ℕ
+body-phases N anchor body = phases-over (body-categories N anchor body) (body .phases)
+
+-- 02, Ask 1: "demands 2 and 3 read categories and phase together"
+pub record Reading : Type 0 where
+  pub categories : List ℕ
+  pub phases : List ℕ
+
+abbrev pub body-reading : ℕ → List ℕ → Body → Reading
+body-reading N anchor body = record { categories = body-categories N anchor body; phases = body-phases N anchor body }
+
+abbrev pub exchange-reading : Bool → Reading → Reading
+exchange-reading member reading = record { categories = exchange-all member (reading .categories); phases = exchange-phases member (reading .phases) }
+
+-- ---- its flip
 
 abbrev pub flip-body : Bool → Bool → Body → Body
-flip-body lent member body = record { main = flip-track lent member (body .main) }
+flip-body lent member body = record { main = flip-track lent member (body .main); phases = flip-phases member (body .phases) }
 
 -- ---- what a flip does to a type's number (laws `flip-kind-is`, `flip-type-is`)
 

@@ -21,6 +21,10 @@ call-numbers = 10 ∷ 11 ∷ 21 ∷ []
 abbrev pub writer-numbers : List ℕ
 writer-numbers = 4 ∷ 10 ∷ 19 ∷ 20 ∷ []
 
+-- 02, Ask 1: of a phased record, "22, after 20"
+abbrev pub phased-writer-numbers : List ℕ
+phased-writer-numbers = 4 ∷ 10 ∷ 19 ∷ 20 ∷ 22 ∷ []
+
 abbrev pub among : List ℕ → ℕ → Bool
 among [] number = false
 among (n ∷ ns) number = eqb number n || among ns number

@@ -18,7 +18,7 @@ use Rattle.format.specs.Layout.{fixed-bytes, sum, block-count, cut, bloc
 use Rattle.format.specs.Layout.{arrays-size, header-bytes, block-starts, joined, in-parts, layout-bytes, record-start}
 use Rattle.format.specs.Header.{read-fixed, need-fixed, read-block, read-blocks, read-blocked, unblocked-arrays, read-arrays, block-place, type-place}
 use Rattle.format.specs.Header.{need-types, read-after-fixed, read-header, need-offsets, split-bodies, read-bodies, read-data, read-layout}
-use Rattle.format.specs.File.{file-bytes, read-records, read-all, read-file, read-over, read-variant, flip-bytes}
+use Rattle.format.specs.File.{file-bytes, read-records, read-all, read-file, over-as, variant-as, flip-bytes}
 use Rattle.format.specs.Writer.{differences, kind-track, need-categories, write-record}
 use Rattle.format.specs.Reply.{refusal-of, header-call, read-call, write-call, flip-call}
 
@@ -105,7 +105,7 @@ examples =
     ∷ []
 
 pub examples-hold : map (λ (e : Example). e .what) examples ≡ map (λ (e : Example). e .is) examples
-unfolding read-call header-call write-call flip-call write-record need-categories kind-track differences flip-bytes read-variant read-over read-file
+unfolding read-call header-call write-call flip-call write-record need-categories kind-track differences flip-bytes variant-as over-as read-file
     read-all read-records file-bytes read-layout read-data read-bodies split-bodies need-offsets read-header read-after-fixed need-types type-place block-place
     read-arrays unblocked-arrays
     read-blocked read-blocks read-block need-fixed read-fixed record-start layout-bytes in-parts header-bytes joined block-starts arrays-size blocked-size

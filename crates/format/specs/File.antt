@@ -6,9 +6,9 @@ use mathlib.Core.List.{List, [], _∷_, map}
 use lib.ListN.{length, getD}
 use Rattle.format.specs.declared.FileVariant.{FileVariant}
 use Rattle.format.specs.Base.{pick, Bytes, Out, ok, bind, map-out}
-use Rattle.format.specs.Category.{exchange-all}
 use Rattle.format.specs.Container.{Container, flip-stored}
 use Rattle.format.specs.Body.{type-leans, Body, body-type, body-leans, body-bytes, BodyFits, read-body, body-categories, flip-body}
+use Rattle.format.specs.Body.{body-phases, Reading, body-reading, exchange-reading}
 use Rattle.format.specs.Variant.{file-variant, next-variant, anchor}
 use Rattle.format.specs.Layout.{Layout, fixed-of, first-record, layout-bytes, record-start, LayoutObeys}
 use Rattle.format.specs.Header.{read-layout}
@@ -40,11 +40,17 @@ file-bytes K f = layout-bytes K (layout-of-file f)
 abbrev pub next-anchor {ℓ} : {X : Type ℓ} → Bool → X → X → X
 next-anchor leaning lent own = pick leaning lent own
 
--- what each variant reads as, one after another; anchor: the categories that the first leans on, if it leans
+-- what each variant reads as, one after another; `what` says what of a body is read, anchor the categories that the first leans on, if it leans
+abbrev pub rows-as : {A : Type 0} → (ℕ → List ℕ → Body → A) → ℕ → List ℕ → List Body → List A
+rows-as what N anchor [] = []
+rows-as what N anchor (body ∷ bodies) = what N anchor body ∷ rows-as what N (next-anchor (body-leans body) anchor (body-categories N anchor body)) bodies
+
+-- its categories, and its phases
 abbrev pub rows : ℕ → List ℕ → List Body → List (List ℕ)
-rows N anchor [] = []
-rows N anchor (body ∷ bodies) =
-    body-categories N anchor body ∷ rows N (next-anchor (body-leans body) anchor (body-categories N anchor body)) bodies
+rows N anchor bodies = rows-as body-categories N anchor bodies
+
+abbrev pub phase-rows : ℕ → List ℕ → List Body → List (List ℕ)
+phase-rows N anchor bodies = rows-as body-phases N anchor bodies
 
 abbrev pub BodiesFit : ℕ → List ℕ → List Body → Type 0
 BodiesFit N anchor [] = Unit {0}
@@ -82,20 +88,27 @@ type-of l v = getD (l .types) (v .0) 0
 abbrev pub variant-leans : Layout → FileVariant → Bool
 variant-leans l v = type-leans (type-of l v)
 
-unfoldable pub read-over : ℕ → Layout → List ℕ → FileVariant → Out (List ℕ)
-read-over K l anchor v =
-    map-out (body-categories (l .samples) anchor) (read-body (record-start K l (next-variant v)) (l .samples) anchor (type-of l v) (getD (l .bodies) (v .0) []))
+-- `what` of a variant's body, over its anchor's categories
+unfoldable pub over-as : {A : Type 0} → (ℕ → List ℕ → Body → A) → ℕ → Layout → List ℕ → FileVariant → Out A
+over-as what K l anchor v =
+    map-out (what (l .samples) anchor) (read-body (record-start K l (next-variant v)) (l .samples) anchor (type-of l v) (getD (l .bodies) (v .0) []))
+
+abbrev pub read-over : ℕ → Layout → List ℕ → FileVariant → Out (List ℕ)
+read-over K l anchor v = over-as body-categories K l anchor v
 
 -- 01, Replies: "a read or lookup checks only its variant's, and an anchor is checked before the record that leans on it"
-unfoldable pub read-variant : ℕ → Layout → FileVariant → Out (List ℕ)
-read-variant K l v =
+unfoldable pub variant-as : {A : Type 0} → (ℕ → List ℕ → Body → A) → ℕ → Layout → FileVariant → Out A
+variant-as what K l v =
     pick (variant-leans l v)
-    (bind (read-over K l [] (anchor K (l .types) v)) (λ row left. read-over K l row v))
-    (read-over K l [] v)
+    (bind (read-over K l [] (anchor K (l .types) v)) (λ row left. over-as what K l row v))
+    (over-as what K l [] v)
 
--- what variant v of a file reads as
-abbrev pub read-row : ℕ → List ℕ → FileVariant → Out (List ℕ)
-read-row K bs v = bind (read-layout K bs) (λ l left. read-variant K l v)
+abbrev pub read-variant : ℕ → Layout → FileVariant → Out (List ℕ)
+read-variant K l v = variant-as body-categories K l v
+
+-- what variant v of a file reads as: categories and phases together
+abbrev pub read-row : ℕ → List ℕ → FileVariant → Out Reading
+read-row K bs v = bind (read-layout K bs) (λ l left. variant-as body-reading K l v)
 
 -- ---- the flip of a set of variants
 
@@ -109,7 +122,10 @@ flip-bodies member v lent (body ∷ bodies) =
 abbrev pub flip-file : (FileVariant → Bool) → File → File
 flip-file member f = file-of (layout-of-file f) (flip-bodies member (file-variant 0) false (f .bodies))
 
--- a file in one piece is a container; what a variant reads as is its categories
+abbrev pub no-reading : Reading
+no-reading = record { categories = []; phases = [] }
+
+-- a file in one piece is a container; what a variant reads as is its categories and its phases
 abbrev pub pgen-file : ℕ → Container
 pgen-file K = record {
   Stored = List ℕ;
@@ -119,10 +135,10 @@ pgen-file K = record {
   bytes = file-bytes K;
   read = read-file K;
   variants = λ (f : File). length (f .bodies);
-  Row = List ℕ;
-  row = λ (f : File) (v : FileVariant). getD (rows (f .samples) [] (f .bodies)) (v .0) [];
+  Row = Reading;
+  row = λ (f : File) (v : FileVariant). getD (rows-as body-reading (f .samples) [] (f .bodies)) (v .0) no-reading;
   read-row = read-row K;
-  exchange = exchange-all;
+  exchange = exchange-reading;
   flip = flip-file;
 }
 

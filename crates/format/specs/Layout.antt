@@ -235,9 +235,13 @@ ColumnsObey f c = pick (unblocked (f .mode)) (ColumnsUnblocked f c) (AllFit f c)
 abbrev pub OffsetsFit : ℕ → Fixed → List ℕ → Type 0
 OffsetsFit K f offsets = (length offsets ≡ block-count K f) × Below (256 ^ 8) offsets
 
--- 01: "A type is allowed if its kind is not 5, all its other bits are 0, and its kind is not 2 or 3 at the first variant of a block."
+-- 01: "A type is allowed if its kind is not 5, all its other bits are 0, and its kind is not 2 or 3 at the first variant of a block." 02, Ask 1: "bit 4
+-- leaves 8"; so the others are bits 3, 5, 6 and 7.
+abbrev pub bits-allowed : ℕ → Bool
+bits-allowed type = ltb (type % 16) 8 && ltb type 32
+
 abbrev pub type-allowed : BlockVariant → ℕ → Bool
-type-allowed i type = ltb type 8 && (not (eqb (kind-of type) 5) && not (eqb (i .0) 0 && type-leans type))
+type-allowed i type = bits-allowed type && (not (eqb (kind-of type) 5) && not (eqb (i .0) 0 && type-leans type))
 
 abbrev pub TypesAllowed : ℕ → FileVariant → List ℕ → Type 0
 TypesAllowed K v [] = Unit {0}

@@ -8,6 +8,7 @@ pub mod Packed
 pub mod Difflist
 pub mod PairCode
 pub mod Track
+pub mod Phase
 pub mod Body
 pub mod Variant
 pub mod Container

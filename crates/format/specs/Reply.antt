@@ -20,9 +20,9 @@ use Rattle.format.specs.Base.{pick, Out, ok, refused, refusal, bind, map
 use Rattle.format.specs.Classes.{header-numbers, call-numbers, among}
 use Rattle.format.specs.Layout.{fields-of, Layout, fixed-of, record-start}
 use Rattle.format.specs.Header.{read-layout}
-use Rattle.format.specs.Body.{Body}
-use Rattle.format.specs.File.{read-all, read-variant, flip-bytes}
-use Rattle.format.specs.Writer.{write-record}
+use Rattle.format.specs.Body.{Body, body-categories, body-phases}
+use Rattle.format.specs.File.{read-all, variant-as, read-variant, flip-bytes}
+use Rattle.format.specs.Writer.{write-record, write-phased}
 
 -- ---- the parts of a reply
 
@@ -147,17 +147,28 @@ pub record Read : Type 0 where
 abbrev pub read-left : Reply → List ℕ → List ℕ → Read
 read-left reply output work = record { verdict = verdict (plain-answer reply); output = output; work = work }
 
+-- `what` of variant v's body
+abbrev pub out-as : {A : Type 0} → (ℕ → List ℕ → Body → A) → ℕ → List ℕ → FileVariant → List ℕ → List ℕ → Out A
+out-as what K file v output work =
+    with-layout K file (λ (l : Layout). holds-row output l && holds-row work l) (λ (l : Layout). need-variant v l (variant-as what K l v))
+
+abbrev pub read-as : (ℕ → List ℕ → Body → List ℕ) → ℕ → List ℕ → FileVariant → List ℕ → List ℕ → Read
+read-as what K file v output work = record {
+  verdict = verdict (out-as what K file v output work);
+  output = given (λ (row : List ℕ). row ++ drop (samples-of K file) output) output (out-as what K file v output work);
+  work = work-after (samples-of K file) (refusal-of (out-as what K file v output work)) work;
+}
+
 abbrev pub read-out : ℕ → List ℕ → FileVariant → List ℕ → List ℕ → Out (List ℕ)
-read-out K file v output work =
-    with-layout K file (λ (l : Layout). holds-row output l && holds-row work l) (λ (l : Layout). need-variant v l (read-variant K l v))
+read-out K file v output work = out-as body-categories K file v output work
 
 -- 01: "A read changes the output's first N bytes and no others."
 unfoldable pub read-call : ℕ → List ℕ → FileVariant → List ℕ → List ℕ → Read
-read-call K file v output work = record {
-  verdict = verdict (read-out K file v output work);
-  output = given (λ (row : List ℕ). row ++ drop (samples-of K file) output) output (read-out K file v output work);
-  work = work-after (samples-of K file) (refusal-of (read-out K file v output work)) work;
-}
+read-call K file v output work = read-as body-categories K file v output work
+
+-- 02, Ask 1: "A new reading fills N bytes: 0 unphased, 1 unswapped, 2 swapped."
+unfoldable pub phases-call : ℕ → List ℕ → FileVariant → List ℕ → List ℕ → Read
+phases-call K file v output work = read-as body-phases K file v output work
 
 pub record Lookup : Type 0 where
   pub verdict : Verdict
@@ -224,12 +235,18 @@ abbrev pub write-left : WriteReply → List ℕ → Written
 write-left reply output = record { verdict = verdict (write-answer reply); count = given-or 0 (write-answer reply); output = output }
 
 -- 01: "It replies with the byte count; bytes past it are untouched. A refusal has count 0."
-unfoldable pub write-call : List ℕ → ℕ → ℕ → List ℕ → List ℕ → Written
-write-call categories number code anchor output = record {
-  verdict = verdict (write-record categories number code anchor (length output));
-  count = given length 0 (write-record categories number code anchor (length output));
-  output = given (λ (bs : List ℕ). bs ++ drop (length bs) output) output (write-record categories number code anchor (length output));
+abbrev pub written : Out (List ℕ) → List ℕ → Written
+written out output = record {
+  verdict = verdict out;
+  count = given length 0 out;
+  output = given (λ (bs : List ℕ). bs ++ drop (length bs) output) output out;
 }
+
+unfoldable pub write-call : List ℕ → ℕ → ℕ → List ℕ → List ℕ → Written
+write-call categories number code anchor output = written (write-record categories number code anchor (length output)) output
+
+unfoldable pub write-phased-call : List ℕ → List ℕ → ℕ → ℕ → List ℕ → List ℕ → Written
+write-phased-call categories phases number code anchor output = written (write-phased categories phases number code anchor (length output)) output
 
 -- ---- flip
 

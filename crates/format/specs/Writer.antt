@@ -12,6 +12,8 @@ use Rattle.format.specs.Difflist.{Entry}
 use Rattle.format.specs.PairCode.{PairCode, pair, category-of, Coded, coded, not-coded, code-numbered}
 use Rattle.format.specs.Track.{Kind, array, paired, against-anchor, against-category, no-kind, kind, leans, Track, plain, one-bit, leaning, sparse}
 use Rattle.format.specs.Track.{track-bytes, put}
+use Rattle.format.specs.Phase.{heterozygous, PhaseTrack, some-unphased, first-of, rest-of, gathered, phased}
+use Rattle.format.specs.Body.{Body, body-bytes}
 use Rattle.format.specs.Layout.{from-1-to}
 
 -- the samples, from sample i on, whose category is not the base's
@@ -52,16 +54,51 @@ need-categories i [] next = next
 need-categories i (category ∷ categories) next = need (ltb category 4) 20 i (need-categories (suc i) categories next)
 
 -- 01: "Order: 4 with place 0 (category count outside 1 to 65,536), 19, 10 (anchor not as long as the categories in kinds 2 and 3, or not empty in
--- another), 20 ..., 10 (output shorter than the record)." room: the output's length.
-unfoldable pub write-record : List ℕ → ℕ → ℕ → List ℕ → ℕ → Out (List ℕ)
-write-record categories number code anchor room =
+-- another)"
+abbrev pub with-track : {A : Type 0} → List ℕ → ℕ → ℕ → List ℕ → (Track → Out A) → Out A
+with-track categories number code anchor next =
     need (from-1-to most-samples (length categories)) 4 0
     (bind (track-for number code anchor categories) (λ track left.
-    need (eqb (length anchor) (pick (leans number) (length categories) 0)) 10 0
+    need (eqb (length anchor) (pick (leans number) (length categories) 0)) 10 0 (next track)))
+
+-- 01: "10 (output shorter than the record)." room: the output's length
+abbrev pub within : ℕ → List ℕ → Out (List ℕ)
+within room bs = need (leb (length bs) room) 10 0 (ok bs [])
+
+unfoldable pub write-record : List ℕ → ℕ → ℕ → List ℕ → ℕ → Out (List ℕ)
+write-record categories number code anchor room =
+    with-track categories number code anchor (λ (track : Track).
+    need-categories 0 categories
+    (need-categories 0 anchor
+    (within room (track-bytes (length categories) track))))
+
+-- ---- the writer of a phased record
+
+-- 02, Ask 1: "22, after 20, a phase above 2 or a nonzero one outside category 1, at its index"
+abbrev pub phase-allowed : ℕ → ℕ → Bool
+phase-allowed category phase = pick (heterozygous category) (ltb phase 3) (eqb phase 0)
+
+unfoldable pub need-phases : {A : Type 0} → ℕ → List ℕ → List ℕ → Out A → Out A
+need-phases i [] phases next = next
+need-phases i (category ∷ categories) phases next =
+    need (phase-allowed category (first-of phases)) 22 i (need-phases (suc i) categories (rest-of phases) next)
+
+-- 02, Ask 1: "a writer, which stores presence bits only if a call is unphased"
+abbrev pub phases-for : List ℕ → List ℕ → PhaseTrack
+phases-for categories phases = record { presence-stored = some-unphased (gathered categories phases); phases = gathered categories phases }
+
+abbrev pub phased-body : List ℕ → List ℕ → Track → Body
+phased-body categories phases track = record { main = track; phases = phased (phases-for categories phases) }
+
+-- 02, Ask 1: "in the writer 10 is also phases not N long, after the anchor, and 22, after 20"
+unfoldable pub write-phased : List ℕ → List ℕ → ℕ → ℕ → List ℕ → ℕ → Out (List ℕ)
+write-phased categories phases number code anchor room =
+    with-track categories number code anchor (λ (track : Track).
+    need (eqb (length phases) (length categories)) 10 0
     (need-categories 0 categories
     (need-categories 0 anchor
-    (need (leb (length (track-bytes (length categories) track)) room) 10 0
-    (ok (track-bytes (length categories) track) []))))))
+    (need-phases 0 categories phases
+    (within room (body-bytes (length categories) (phased-body categories phases track)))))))
 
 -- ---- a record read and written again
 

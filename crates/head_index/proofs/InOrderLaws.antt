@@ -13,7 +13,7 @@ use Rattle.format.specs.Base.{Bytes, Out, ok, bind, map-out, refused}
 use Rattle.format.specs.Body.{Body, body-leans, read-body, body-categories, type-leans}
 use Rattle.format.specs.Variant.{file-variant, next-variant, in-block, anchor}
 use Rattle.format.specs.Layout.{sum, first-record, Layout, fixed-of, record-start, TypesAllowed, LayoutObeys}
-use Rattle.format.specs.File.{next-anchor, rows, read-records, read-all, type-of, read-over, read-variant, variant-leans}
+use Rattle.format.specs.File.{next-anchor, rows-as, read-records, read-all, type-of, over-as, read-over, variant-as, variant-leans}
 use Rattle.format.proofs.Rules.{never-both, Holds, by-test, split}
 use Rattle.format.proofs.BodyLaws.{IsBody, body-as-written, kept-leaning}
 use Rattle.format.proofs.RowLaws.{anchor-unused, row-anchor-unused}
@@ -21,10 +21,10 @@ use Rattle.format.proofs.AnchorLaws.{first-stands, anchor-after-leaning, anchor
 use Rattle.head_index.proofs.StartLaws.{record-end}
 use Rattle.format.proofs.FileLaws.{AllBytes, one-type-each}
 
--- so many variants from v on, each as a read gives it
-unfoldable pub read-each : ℕ → Layout → ℕ → FileVariant → Out (List (List ℕ))
-read-each K l zero v = ok [] []
-read-each K l (suc n) v = bind (read-variant K l v) (λ row left. map-out (_∷_ row) (read-each K l n (next-variant v)))
+-- so many variants from v on, each as a read gives it; `what` says what of a body is read
+unfoldable pub read-each : {A : Type 0} → (ℕ → List ℕ → Body → A) → ℕ → Layout → ℕ → FileVariant → Out (List A)
+read-each what K l zero v = ok [] []
+read-each what K l (suc n) v = bind (variant-as what K l v) (λ row left. map-out (_∷_ row) (read-each what K l n (next-variant v)))
 
 module _ (K : ℕ) (l : Layout) (p : zero < K) (h : LayoutObeys K l) where
   -- `lent` is what variant v leans on, if it leans
@@ -43,29 +43,27 @@ module _ (K : ℕ) (l : Layout) (p : zero < K) (h : LayoutObeys K l) where
       (body-as-written (record-start K l (file-variant (suc v))) (l .samples) lent (type-of l (file-variant v)) (getD (l .bodies) v []) y) in
       (kept-leaning w, w .ended)
 
+  -- whatever is read of a body that leans on none is the same over every anchor
+  abbrev pub Unleaning : {A : Type 0} → (ℕ → List ℕ → Body → A) → Type 0
+  Unleaning what = (lent other : List ℕ) (body : Body) → body-leans body ≡ false → what (l .samples) lent body ≡ what (l .samples) other body
+
   -- over nothing or over `lent`, a record that stands is read alike
-  pub stands-alike : (v : ℕ) (lent : List ℕ) → Bytes (getD (l .bodies) v []) → variant-leans l (file-variant v) ≡ false
-      → read-over K l [] (file-variant v) ≡ map-out (body-categories (l .samples) lent) (record-at v lent)
-  unfolding read-over
-  stands-alike v lent y s =
-      ap (map-out (body-categories (l .samples) []))
+  pub stands-alike-as : {A : Type 0} (what : ℕ → List ℕ → Body → A) → Unleaning what → (v : ℕ) (lent : List ℕ) → Bytes (getD (l .bodies) v [])
+      → variant-leans l (file-variant v) ≡ false → over-as what K l [] (file-variant v) ≡ map-out (what (l .samples) lent) (record-at v lent)
+  unfolding over-as
+  stands-alike-as {A} what unleaning v lent y s =
+      ap (map-out (what (l .samples) []))
       (anchor-unused (record-start K l (file-variant (suc v))) (l .samples) [] lent (type-of l (file-variant v)) (getD (l .bodies) v []) s)
       ∙ go (record-at v lent) refl
     where
-      go : (out : Out Body) → record-at v lent ≡ out → map-out (body-categories (l .samples) []) out ≡ map-out (body-categories (l .samples) lent) out
-      go (ok body left) e =
-          ap (λ (row : List ℕ). ok row left)
-          (row-anchor-unused (l .samples) [] lent body (read-leans v lent body left y e .0 ∙ s))
+      go : (out : Out Body) → record-at v lent ≡ out → map-out (what (l .samples) []) out ≡ map-out (what (l .samples) lent) out
+      go (ok body left) e = ap (λ (row : A). ok row left) (unleaning [] lent body (read-leans v lent body left y e .0 ∙ s))
       go (refused why) e = refl
 
-  -- so a read of v reads its record over `lent`
-  variant-over : (v : ℕ) (lent : List ℕ) → Bytes (getD (l .bodies) v []) → Lent v lent
-      → read-variant K l (file-variant v) ≡ map-out (body-categories (l .samples) lent) (record-at v lent)
-  unfolding read-variant read-over
-  variant-over v lent y i =
-      by-test (λ (out : Out (List ℕ)). out ≡ map-out (body-categories (l .samples) lent) (record-at v lent)) (variant-leans l (file-variant v))
-      (λ t. ap (λ (out : Out (List ℕ)). bind out (λ row left. read-over K l row (file-variant v))) (i t))
-      (λ t. stands-alike v lent y t)
+  -- its categories
+  pub stands-alike : (v : ℕ) (lent : List ℕ) → Bytes (getD (l .bodies) v []) → variant-leans l (file-variant v) ≡ false
+      → read-over K l [] (file-variant v) ≡ map-out (body-categories (l .samples) lent) (record-at v lent)
+  stands-alike v lent y s = stands-alike-as body-categories (row-anchor-unused (l .samples)) v lent y s
 
   -- what the next variant leans on
   lent-next : (v : ℕ) (lent : List ℕ) (body : Body) (left : List ℕ) → Bytes (getD (l .bodies) v []) → suc v < length (l .types) → Lent v lent
@@ -96,72 +94,82 @@ module _ (K : ℕ) (l : Layout) (p : zero < K) (h : LayoutObeys K l) where
       (λ m. lent-past (suc v) (next-anchor (variant-leans l (file-variant v)) lent (body-categories (l .samples) lent body)) m)
       (λ m. lent-next v lent body left y m i e)
 
-  -- one record, and then the rest
-  one-more : (v : ℕ) (lent : List ℕ) (types : List ℕ) (stored : List (List ℕ)) → Bytes (getD (l .bodies) v []) → Lent v lent
-      → ((next : List ℕ) → Lent (suc v) next
-      → map-out (rows (l .samples) next) (read-records (l .samples) (record-start K l (file-variant (suc v))) next types stored)
-      ≡ read-each K l (length stored) (file-variant (suc v)))
-      → (out : Out Body) → record-at v lent ≡ out
-      → map-out (rows (l .samples) lent) (bind out (λ body left. map-out (_∷_ body)
-      (read-records (l .samples) (record-start K l (file-variant (suc v)))
-      (next-anchor (variant-leans l (file-variant v)) lent (body-categories (l .samples) lent body)) types stored)))
-      ≡ bind (map-out (body-categories (l .samples) lent) out) (λ row left. map-out (_∷_ row) (read-each K l (length stored) (file-variant (suc v))))
-  one-more v lent types stored y i k (refused why) e = refl
-  one-more v lent types stored y i k (ok body left) e =
-      let next : List ℕ = next-anchor (variant-leans l (file-variant v)) lent (body-categories (l .samples) lent body) in
-      joined-rows (read-records (l .samples) (record-start K l (file-variant (suc v))) next types stored)
-      ∙ ap (map-out (_∷_ (body-categories (l .samples) lent body))) (k next (lent-after v lent body left y i e))
-    where
-      same-next : next-anchor (body-leans body) lent (body-categories (l .samples) lent body)
-          ≡ next-anchor (variant-leans l (file-variant v)) lent (body-categories (l .samples) lent body)
-      same-next = ap (λ (b : Bool). next-anchor b lent (body-categories (l .samples) lent body)) (read-leans v lent body left y e .0)
+  module _ {A : Type 0} (what : ℕ → List ℕ → Body → A) (unleaning : Unleaning what) where
+    -- a read of v reads its record over `lent`
+    variant-over : (v : ℕ) (lent : List ℕ) → Bytes (getD (l .bodies) v []) → Lent v lent
+        → variant-as what K l (file-variant v) ≡ map-out (what (l .samples) lent) (record-at v lent)
+    unfolding variant-as over-as
+    variant-over v lent y i =
+        by-test (λ (out : Out A). out ≡ map-out (what (l .samples) lent) (record-at v lent)) (variant-leans l (file-variant v))
+        (λ t. ap (λ (out : Out (List ℕ)). bind out (λ row left. over-as what K l row (file-variant v))) (i t))
+        (λ t. stands-alike-as what unleaning v lent y t)
 
-      joined-rows : (rest : Out (List Body)) → map-out (rows (l .samples) lent) (map-out (_∷_ body) rest)
-          ≡ map-out (_∷_ (body-categories (l .samples) lent body))
-          (map-out (rows (l .samples) (next-anchor (variant-leans l (file-variant v)) lent (body-categories (l .samples) lent body))) rest)
-      joined-rows (refused why) = refl
-      joined-rows (ok bodies after) = ap (λ (x : List ℕ). ok (body-categories (l .samples) lent body ∷ rows (l .samples) x bodies) after) same-next
+    -- one record, and then the rest
+    one-more : (v : ℕ) (lent : List ℕ) (types : List ℕ) (stored : List (List ℕ)) → Bytes (getD (l .bodies) v []) → Lent v lent
+        → ((next : List ℕ) → Lent (suc v) next
+        → map-out (rows-as what (l .samples) next) (read-records (l .samples) (record-start K l (file-variant (suc v))) next types stored)
+        ≡ read-each what K l (length stored) (file-variant (suc v)))
+        → (out : Out Body) → record-at v lent ≡ out
+        → map-out (rows-as what (l .samples) lent) (bind out (λ body left. map-out (_∷_ body)
+        (read-records (l .samples) (record-start K l (file-variant (suc v)))
+        (next-anchor (variant-leans l (file-variant v)) lent (body-categories (l .samples) lent body)) types stored)))
+        ≡ bind (map-out (what (l .samples) lent) out) (λ row left. map-out (_∷_ row) (read-each what K l (length stored) (file-variant (suc v))))
+    one-more v lent types stored y i k (refused why) e = refl
+    one-more v lent types stored y i k (ok body left) e =
+        let next : List ℕ = next-anchor (variant-leans l (file-variant v)) lent (body-categories (l .samples) lent body) in
+        joined-rows (read-records (l .samples) (record-start K l (file-variant (suc v))) next types stored)
+        ∙ ap (map-out (_∷_ (what (l .samples) lent body))) (k next (lent-after v lent body left y i e))
+      where
+        same-next : next-anchor (body-leans body) lent (body-categories (l .samples) lent body)
+            ≡ next-anchor (variant-leans l (file-variant v)) lent (body-categories (l .samples) lent body)
+        same-next = ap (λ (b : Bool). next-anchor b lent (body-categories (l .samples) lent body)) (read-leans v lent body left y e .0)
 
-  -- the records from v on
-  from-variant : (v : ℕ) (lent types : List ℕ) (stored : List (List ℕ)) → drop v (l .types) ≡ types → drop v (l .bodies) ≡ stored → AllBytes stored
-      → Lent v lent
-      → map-out (rows (l .samples) lent) (read-records (l .samples) (record-start K l (file-variant v)) lent types stored)
-      ≡ read-each K l (length stored) (file-variant v)
-  unfolding read-records read-each
-  from-variant v lent [] [] a b y i = refl
-  from-variant v lent [] (bs ∷ stored) a b y i =
-      absurd (omega (arith, ap length a, ap length b, length-drop v (l .types), length-drop v (l .bodies), one-type-each K l h))
-  from-variant v lent (type ∷ types) [] a b y i =
-      absurd (omega (arith, ap length a, ap length b, length-drop v (l .types), length-drop v (l .bodies), one-type-each K l h))
-  from-variant v lent (type ∷ types) (bs ∷ stored) a b y i =
-      let N : ℕ = l .samples in
-      let start : ℕ = record-start K l (file-variant v) in
-      let there : v < length (l .bodies) = omega (arith, ap length b, length-drop v (l .bodies)) in
-      let type-is : type-of l (file-variant v) ≡ type = first 0 v (l .types) type types a in
-      let body-is : getD (l .bodies) v [] ≡ bs = first [] v (l .bodies) bs stored b in
-      let end-is : record-start K l (file-variant (suc v)) ≡ start + length bs
-      = record-end K (file-variant v) l there ∙ ap (λ (x : List ℕ). start + length x) body-is in
-      let bytes : Bytes (getD (l .bodies) v []) = subst Bytes (sym body-is) (y .0) in
-      rw (← end-is, ← type-is, ← body-is)
-      (one-more v lent types stored bytes i
-      (λ next j. from-variant (suc v) next types stored (rest v (l .types) type types a) (rest v (l .bodies) bs stored b) (y .1) j) (record-at v lent) refl
-      ∙ ap (λ (out : Out (List ℕ)). bind out (λ row left. map-out (_∷_ row) (read-each K l (length stored) (file-variant (suc v)))))
-      (sym (variant-over v lent bytes i)))
-    where
-      first : {A : Type 0} (d : A) (v : ℕ) (xs : List A) (x : A) (rest : List A) → drop v xs ≡ x ∷ rest → getD xs v d ≡ x
-      first d v xs x rest e = ap (λ (n : ℕ). getD xs n d) (sym (add-zero v)) ∙ sym (getD-drop v xs 0 d) ∙ ap (λ (ys : List _). getD ys 0 d) e
+        joined-rows : (rest : Out (List Body)) → map-out (rows-as what (l .samples) lent) (map-out (_∷_ body) rest)
+            ≡ map-out (_∷_ (what (l .samples) lent body))
+            (map-out (rows-as what (l .samples) (next-anchor (variant-leans l (file-variant v)) lent (body-categories (l .samples) lent body))) rest)
+        joined-rows (refused why) = refl
+        joined-rows (ok bodies after) = ap (λ (x : List ℕ). ok (what (l .samples) lent body ∷ rows-as what (l .samples) x bodies) after) same-next
 
-      rest : {A : Type 0} (v : ℕ) (xs : List A) (x : A) (rest : List A) → drop v xs ≡ x ∷ rest → drop (suc v) xs ≡ rest
-      rest v xs x after e = ap (λ (n : ℕ). drop n xs) (let q : suc v ≡ v + 1 = omega arith in q) ∙ sym (drop-drop 1 v xs) ∙ ap (drop 1) e
+    -- the records from v on
+    from-variant : (v : ℕ) (lent types : List ℕ) (stored : List (List ℕ)) → drop v (l .types) ≡ types → drop v (l .bodies) ≡ stored → AllBytes stored
+        → Lent v lent
+        → map-out (rows-as what (l .samples) lent) (read-records (l .samples) (record-start K l (file-variant v)) lent types stored)
+        ≡ read-each what K l (length stored) (file-variant v)
+    unfolding read-records read-each
+    from-variant v lent [] [] a b y i = refl
+    from-variant v lent [] (bs ∷ stored) a b y i =
+        absurd (omega (arith, ap length a, ap length b, length-drop v (l .types), length-drop v (l .bodies), one-type-each K l h))
+    from-variant v lent (type ∷ types) [] a b y i =
+        absurd (omega (arith, ap length a, ap length b, length-drop v (l .types), length-drop v (l .bodies), one-type-each K l h))
+    from-variant v lent (type ∷ types) (bs ∷ stored) a b y i =
+        let N : ℕ = l .samples in
+        let start : ℕ = record-start K l (file-variant v) in
+        let there : v < length (l .bodies) = omega (arith, ap length b, length-drop v (l .bodies)) in
+        let type-is : type-of l (file-variant v) ≡ type = first 0 v (l .types) type types a in
+        let body-is : getD (l .bodies) v [] ≡ bs = first [] v (l .bodies) bs stored b in
+        let end-is : record-start K l (file-variant (suc v)) ≡ start + length bs
+        = record-end K (file-variant v) l there ∙ ap (λ (x : List ℕ). start + length x) body-is in
+        let bytes : Bytes (getD (l .bodies) v []) = subst Bytes (sym body-is) (y .0) in
+        rw (← end-is, ← type-is, ← body-is)
+        (one-more v lent types stored bytes i
+        (λ next j. from-variant (suc v) next types stored (rest v (l .types) type types a) (rest v (l .bodies) bs stored b) (y .1) j) (record-at v lent) refl
+        ∙ ap (λ (out : Out A). bind out (λ row left. map-out (_∷_ row) (read-each what K l (length stored) (file-variant (suc v)))))
+        (sym (variant-over v lent bytes i)))
+      where
+        first : {X : Type 0} (d : X) (v : ℕ) (xs : List X) (x : X) (rest : List X) → drop v xs ≡ x ∷ rest → getD xs v d ≡ x
+        first d v xs x rest e = ap (λ (n : ℕ). getD xs n d) (sym (add-zero v)) ∙ sym (getD-drop v xs 0 d) ∙ ap (λ (ys : List _). getD ys 0 d) e
 
-  -- 01, Replies: "the whole-file check, which goes in variant order": it is the read of every variant, one after another
-  pub check-in-order : AllBytes (l .bodies) → map-out (rows (l .samples) []) (read-all K l) ≡ read-each K l (length (l .bodies)) (file-variant 0)
-  unfolding read-all record-start sum
-  check-in-order y =
-      ap (λ (start : ℕ). map-out (rows (l .samples) []) (read-records (l .samples) start [] (l .types) (l .bodies)))
-      (sym (add-zero (first-record K (fixed-of l))))
-      ∙ from-variant 0 [] (l .types) (l .bodies) refl refl y (λ t. never-both t (first-leans-not (l .types) (h .types)))
-    where
-      first-leans-not : (types : List ℕ) → TypesAllowed K (file-variant 0) types → type-leans (getD types 0 0) ≡ false
-      first-leans-not [] g = refl
-      first-leans-not (type ∷ types) g = first-stands (in-block K (file-variant 0)) type (zero-mod K) (g .0)
+        rest : {X : Type 0} (v : ℕ) (xs : List X) (x : X) (rest : List X) → drop v xs ≡ x ∷ rest → drop (suc v) xs ≡ rest
+        rest v xs x after e = ap (λ (n : ℕ). drop n xs) (let q : suc v ≡ v + 1 = omega arith in q) ∙ sym (drop-drop 1 v xs) ∙ ap (drop 1) e
+
+    -- 01, Replies: "the whole-file check, which goes in variant order": it is the read of every variant, one after another, whatever is read
+    pub check-in-order : AllBytes (l .bodies) → map-out (rows-as what (l .samples) []) (read-all K l) ≡ read-each what K l (length (l .bodies)) (file-variant 0)
+    unfolding read-all record-start sum
+    check-in-order y =
+        ap (λ (start : ℕ). map-out (rows-as what (l .samples) []) (read-records (l .samples) start [] (l .types) (l .bodies)))
+        (sym (add-zero (first-record K (fixed-of l))))
+        ∙ from-variant 0 [] (l .types) (l .bodies) refl refl y (λ t. never-both t (first-leans-not (l .types) (h .types)))
+      where
+        first-leans-not : (types : List ℕ) → TypesAllowed K (file-variant 0) types → type-leans (getD types 0 0) ≡ false
+        first-leans-not [] g = refl
+        first-leans-not (type ∷ types) g = first-stands (in-block K (file-variant 0)) type (zero-mod K) (g .0)

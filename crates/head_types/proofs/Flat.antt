@@ -107,10 +107,10 @@ none-bad bs at n bits d e l s f t = sym (all-allowed (drop at bs) n bits n 0 (om
     allowed : (k : ℕ) → k < n → type-allowed (block-variant k) (digit-at bits (drop at bs) k) ≡ true
     allowed zero h =
         let f : Fine (digit-at bits (drop at bs) 0) = each-fine bs at n bits 0 g h in
-        sym (alone-allowed (block-variant 0) (digit-at bits (drop at bs) 0) _ refl (f .small) (f .known) refl (rw (e, d) at l))
+        sym (alone-allowed (block-variant 0) (digit-at bits (drop at bs) 0) _ refl (sym (f .bits)) refl (f .known) refl (rw (e, d) at l))
     allowed (suc k) h =
         let f : Fine (digit-at bits (drop at bs) (suc k)) = each-fine bs at n bits (suc k) g h in
-        sym (later-allowed (block-variant (suc k)) (digit-at bits (drop at bs) (suc k)) _ refl (f .small) (f .known) (λ z. omega arith))
+        sym (later-allowed (block-variant (suc k)) (digit-at bits (drop at bs) (suc k)) _ refl (sym (f .bits)) refl (f .known) (λ z. omega arith))
 
 -- the first type leans
 pub first-bad : (bs : List ℕ) (at n : ℕ) (bits : Bits) {first : ℕ} {lean : Bool} → 1 ≤ n → first ≡ digit-at bits (drop at bs) 0 → lean ≡ type-leans first

@@ -11,14 +11,15 @@ use lib.Dec.{eqb, ltb}
 use mir.Syntax.{w8, w64}
 use mir.Val.{Fits}
 use native.Mathlib.Omega.{arith}
-use borrow.Author.Tests.{lt-ltb, le-ltb, eq-eqb, ne-eqb}
+use borrow.Author.Tests.{lt-ltb, le-ltb, eq-eqb, ne-eqb, not-true, not-false}
 use Rattle.format.specs.declared.BlockVariant.{BlockVariant}
 use Rattle.format.specs.Base.{pick}
 use Rattle.format.specs.Packed.{Bits, four, eight, more, packed-size}
 use Rattle.format.specs.Track.{leans}
 use Rattle.format.specs.Body.{kind-of, type-leans}
-use Rattle.format.specs.Layout.{type-allowed}
+use Rattle.format.specs.Layout.{bits-allowed, type-allowed}
 use Rattle.head_index.specs.NumbersAt.{digit-at}
+use Rattle.head_types.specs.Fine.{Fine}
 
 -- ---- one type
 
@@ -91,35 +92,60 @@ and-false : (t : Bool) → t && false ≡ false
 and-false true = refl
 and-false false = refl
 
-pub large-refused : (i : BlockVariant) (type : ℕ) → 8 ≤ type → false ≡ type-allowed i type
-large-refused i type h = simp (le-ltb type 8 h)
+-- by bit 3
+pub low-bits-refused : (type : ℕ) → 8 ≤ type % 16 → false ≡ bits-allowed type
+low-bits-refused type h = simp (le-ltb (type % 16) 8 h)
 
-module _ (i : BlockVariant) (type kind : ℕ) (e : kind ≡ kind-of type) where
-  pub five-refused : type < 8 → kind ≡ 5 → false ≡ type-allowed i type
-  five-refused h q = simp (lt-ltb type 8 h, eq-eqb (kind-of type) 5 (sym e ∙ q))
+-- by the bits above bit 4
+pub high-bits-decide : (type : ℕ) → type % 16 < 8 → ltb type 32 ≡ bits-allowed type
+high-bits-decide type h = simp (lt-ltb (type % 16) 8 h)
 
-  module _ (h : type < 8) (n : kind ≡ 5 → ⊥) where
+pub bits-refused : (i : BlockVariant) (type : ℕ) {bits : Bool} → bits ≡ bits-allowed type → not bits ≡ true → false ≡ type-allowed i type
+bits-refused i type {bits} b t = simp (sym b ∙ not-true bits t)
+
+module _ (i : BlockVariant) (type kind : ℕ) (e : kind ≡ kind-of type) {bits : Bool} (b : bits ≡ bits-allowed type) (t : not bits ≡ false) where
+  bits-right : bits-allowed type ≡ true
+  bits-right = sym b ∙ not-false bits t
+
+  pub five-refused : kind ≡ 5 → false ≡ type-allowed i type
+  five-refused q = simp (bits-right, eq-eqb (kind-of type) 5 (sym e ∙ q))
+
+  module _ (n : kind ≡ 5 → ⊥) where
     not-5 : eqb (kind-of type) 5 ≡ false
     not-5 = ne-eqb (kind-of type) 5 (λ z. n (e ∙ z))
 
     pub first-refused : {lean : Bool} → i .0 ≡ 0 → lean ≡ type-leans type → lean ≡ true → false ≡ type-allowed i type
-    first-refused z l t = simp (lt-ltb type 8 h, not-5, eq-eqb (i .0) 0 z, sym l ∙ t)
+    first-refused z l t = simp (bits-right, not-5, eq-eqb (i .0) 0 z, sym l ∙ t)
 
     pub alone-allowed : {lean : Bool} → lean ≡ type-leans type → lean ≡ false → true ≡ type-allowed i type
-    alone-allowed l t = simp (lt-ltb type 8 h, not-5, sym l ∙ t, and-false (eqb (i .0) 0))
+    alone-allowed l t = simp (bits-right, not-5, sym l ∙ t, and-false (eqb (i .0) 0))
 
     pub later-allowed : (i .0 ≡ 0 → ⊥) → true ≡ type-allowed i type
-    later-allowed z = simp (lt-ltb type 8 h, not-5, ne-eqb (i .0) 0 z)
+    later-allowed z = simp (bits-right, not-5, ne-eqb (i .0) 0 z)
+
+    -- one that is allowed at every variant but a block's first
+    pub fine : Fine type
+    fine = record { bits = bits-right; known = λ z. n (e ∙ z) }
 
 -- whatever leans is none of those
 pub leaner-refused : (i : BlockVariant) (type : ℕ) → i .0 ≡ 0 → type-leans type ≡ true → type-allowed i type ≡ false
-leaner-refused i type z l = simp (eq-eqb (i .0) 0 z, l) (never (ltb type 8) (not (eqb (kind-of type) 5)))
+leaner-refused i type z l = simp (eq-eqb (i .0) 0 z, l) (never (bits-allowed type) (not (eqb (kind-of type) 5)))
   where
     never : (s t : Bool) → s && (t && false) ≡ false
     never true t = and-false t
     never false t = refl
 
-pub ruleset allowed-laws = (large-refused, five-refused, first-refused, alone-allowed, later-allowed, stands-alone, two-leans, three-leans)
+-- what is amiss is not said to be fine
+pub amiss-not-fine : (type : ℕ) → _≡_ {A = ℕ} 1 0 → Fine type
+amiss-not-fine type z = absurd (omega arith)
+
+pub ruleset amiss-laws = (fine, amiss-not-fine)
+
+pub ruleset lean-laws = (stands-alone, two-leans, three-leans)
+
+pub ruleset bits-laws = (low-bits-refused, high-bits-decide)
+
+pub ruleset allowed-laws = (bits-refused, five-refused, first-refused, alone-allowed, later-allowed)
 
 -- ---- how many bytes they take
 

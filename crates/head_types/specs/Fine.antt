@@ -2,14 +2,16 @@
 -- Assumes nothing.
 use mathlib.Core.Path.{_≡_}
 use Prim.Native.Nat.{ℕ, suc, _+_, _/_, _%_, _^_, _<_}
+use mathlib.Core.Bool.{true}
 use mathlib.Core.List.{List}
 use lib.ListN.{getD}
 use Rattle.format.specs.Packed.{Bits, limit, more}
 use Rattle.format.specs.Body.{kind-of}
+use Rattle.format.specs.Layout.{bits-allowed}
 
 -- a type that is allowed at every variant but a block's first
 pub record Fine (type : ℕ) : Type 0 where
-  pub small : type < 8
+  pub bits : bits-allowed type ≡ true
   pub known : kind-of type ≡ 5 → ⊥
 
 -- every type in a byte is

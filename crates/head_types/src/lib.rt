@@ -6,9 +6,9 @@ ghost use lib.ListN.{length, drop};
 ghost use Rattle.format.specs.Base.{pick};
 ghost use Rattle.format.specs.Packed.{four, eight, more, packed-size};
 ghost use Rattle.format.specs.Limits.{variants-to-a-block};
-ghost use Rattle.format.specs.Body.{kind-of, type-leans};
+ghost use Rattle.format.specs.Body.{kind-of, type-leans, type-phased};
 ghost use Rattle.format.specs.Variant.{block-variant, nearest};
-ghost use Rattle.format.specs.Layout.{type-allowed};
+ghost use Rattle.format.specs.Layout.{bits-allowed, type-allowed};
 ghost use Rattle.head_index.specs.NumbersAt.{digit-at, digits-at};
 ghost use Rattle.head_index.specs.Rules.{bad-in-block};
 ghost use Rattle.head_types.specs.Fine.{Fine, FineByte, FineBytes};
@@ -53,11 +53,28 @@ pub fn type_leans(record_type: u8) -> bool
     false
 }
 
+// 02, Ask 1: "record type bit 4" says that a phase track follows the main track.
+pub fn type_phased(record_type: u8) -> bool
+    ensures { λ r. ⌜ r ≡ type-phased record_type ⌝ }
+{
+    record_type / 16 % 2 == 1
+}
+
+// 01: "all its other bits are 0". 02, Ask 1: "bit 4 leaves 8"; so the other bits are 3, 5, 6 and 7.
+fn bits_allowed(record_type: u8) -> bool
+    ensures { λ r. ⌜ r ≡ bits-allowed record_type ⌝ }
+{
+    if 8 <= record_type % 16 {
+        return false;
+    }
+    record_type < 32
+}
+
 // 01: "A type is allowed if its kind is not 5, all its other bits are 0, and its kind is not 2 or 3 at the first variant of a block."
 pub fn type_allowed(i: BlockVariant, record_type: u8) -> bool
     ensures { λ r. ⌜ r ≡ type-allowed i record_type ⌝ }
 {
-    if 8 <= record_type {
+    if !bits_allowed(record_type) {
         return false;
     }
     if kind_of(record_type) == 5 {
@@ -91,7 +108,7 @@ fn scan(file: &[u8], at: usize, n: usize, half: bool) -> FoundInBlock
 fn amiss(record_type: u8) -> u8
     ensures { λ r. ⌜ (r ≡ 0 → Fine record_type) ⌝ }
 {
-    if 8 <= record_type {
+    if !bits_allowed(record_type) {
         return 1;
     }
     if kind_of(record_type) == 5 {

@@ -118,6 +118,14 @@ fn read(file: &[u8], v: FileVariant, output: &mut [u8], work: &mut [u8]) {
     end(&mut out, c);
 }
 
+fn phases_read(file: &[u8], v: FileVariant, output: &mut [u8], work: &mut [u8]) {
+    let mut out = [0u8; 4096];
+    let a = done(&mut out, 0, pgen::read_phases(file, v, output, work));
+    let b = buffer(&mut out, a, b'o', output);
+    let c = buffer(&mut out, b, b'w', work);
+    end(&mut out, c);
+}
+
 fn looked_up(file: &[u8], v: FileVariant, sample: usize, work: &mut [u8]) {
     let mut out = [0u8; 4096];
     let a = category(&mut out, pgen::lookup(file, v, sample, work));
@@ -141,6 +149,25 @@ fn written(categories: &[u8], kind: usize, code: usize, anchor: &[u8], output: &
     let a = count(
         &mut out,
         pgen::write_record(categories, kind, code, anchor, output),
+    );
+    let b = buffer(&mut out, a, b'o', output);
+    end(&mut out, b);
+}
+
+// This call has a third string, the phases, which comes after the second.
+fn phased_written(
+    categories: &[u8],
+    kind: usize,
+    code: usize,
+    anchor: &[u8],
+    output: &mut [u8],
+    third: &mut [u8],
+) {
+    io::read_full(0, third);
+    let mut out = [0u8; 4096];
+    let a = count(
+        &mut out,
+        pgen::write_phased_record(categories, third, kind, code, anchor, output),
     );
     let b = buffer(&mut out, a, b'o', output);
     end(&mut out, b);
@@ -227,6 +254,8 @@ fn ask(c: Case, first: &[u8], second: &[u8], output: &mut [u8], work: &mut [u8])
         3 => read(first, FileVariant(c.x), output, work),
         4 => looked_up(first, FileVariant(c.x), c.y, work),
         5 => viewed(first, FileVariant(c.x)),
+        8 => phases_read(first, FileVariant(c.x), output, work),
+        9 => phased_written(first, c.x, c.y, second, output, work),
         23 => gone_through(first, second, c.x, output, work),
         _ => written(first, c.x, c.y, second, output),
     }

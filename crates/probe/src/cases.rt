@@ -57,7 +57,7 @@ pub fn case_of(head: &[u8; 33]) -> Case {
     }
 }
 
-// 1 to 7, and 23, a way through a file of at most 64 steps.
+// 1 to 9, and 23, a way through a file of at most 64 steps.
 fn known(call: usize, x: usize) -> bool {
     if call == 0 {
         return false;
@@ -65,7 +65,7 @@ fn known(call: usize, x: usize) -> bool {
     if call == 23 {
         return x <= 64;
     }
-    call <= 7
+    call <= 9
 }
 
 // The head came whole, names a call and keeps the limits.

@@ -16,9 +16,10 @@ use Rattle.format.specs.Limits.{most-samples}
 use Rattle.format.specs.Layout.{Layout, fixed-of, first-record}
 use Rattle.format.specs.Header.{read-layout}
 use Rattle.format.specs.File.{File, layout-of-file, file-bytes, Obeys, file-of, read-all, read-file}
-use Rattle.format.specs.Writer.{write-record}
+use Rattle.format.specs.Writer.{write-record, write-phased}
 use Rattle.format.specs.Reply.{refusal-of, given, no-fields, header-call, check-out, check-call, read-out, read-call, lookup-out, lookup-call}
-use Rattle.format.specs.Reply.{view-out, view-call, write-call, flip-out, flip-call}
+use Rattle.format.specs.Body.{body-phases}
+use Rattle.format.specs.Reply.{out-as, phases-call, view-out, view-call, write-call, write-phased-call, flip-out, flip-call}
 use Rattle.format.proofs.Refuses.{Refuses, Among, every, not-none}
 use Rattle.format.proofs.CallRefusals.{check-numbers, check-refusals}
 use Rattle.format.proofs.Rules.{Holds}
@@ -60,6 +61,11 @@ pub refused-read : (K : ℕ) (file : List ℕ) (v : FileVariant) (output work : 
 unfolding read-call
 refused-read K file v output work h = untouched _ output (read-out K file v output work) h
 
+pub refused-phases : (K : ℕ) (file : List ℕ) (v : FileVariant) (output work : List ℕ)
+    → (phases-call K file v output work .verdict .refusal .number ≡ 0 → ⊥) → phases-call K file v output work .output ≡ output
+unfolding phases-call
+refused-phases K file v output work h = untouched _ output (out-as body-phases K file v output work) h
+
 -- 01: "A refusal has count 0."
 pub refused-count : (categories : List ℕ) (number code : ℕ) (lent output : List ℕ)
     → (write-call categories number code lent output .verdict .refusal .number ≡ 0 → ⊥)
@@ -72,6 +78,21 @@ pub refused-write : (categories : List ℕ) (number code : ℕ) (lent output : L
     → write-call categories number code lent output .output ≡ output
 unfolding write-call
 refused-write categories number code lent output h = untouched _ output (write-record categories number code lent (length output)) h
+
+-- the same of a phased record
+pub refused-phased-count : (categories phases : List ℕ) (number code : ℕ) (lent output : List ℕ)
+    → (write-phased-call categories phases number code lent output .verdict .refusal .number ≡ 0 → ⊥)
+    → write-phased-call categories phases number code lent output .count ≡ 0
+unfolding write-phased-call
+refused-phased-count categories phases number code lent output h =
+    untouched length 0 (write-phased categories phases number code lent (length output)) h
+
+pub refused-phased-write : (categories phases : List ℕ) (number code : ℕ) (lent output : List ℕ)
+    → (write-phased-call categories phases number code lent output .verdict .refusal .number ≡ 0 → ⊥)
+    → write-phased-call categories phases number code lent output .output ≡ output
+unfolding write-phased-call
+refused-phased-write categories phases number code lent output h =
+    untouched _ output (write-phased categories phases number code lent (length output)) h
 
 pub refused-flip : (K : ℕ) (file set work : List ℕ) → (flip-call K file set work .verdict .refusal .number ≡ 0 → ⊥)
     → flip-call K file set work .file ≡ file

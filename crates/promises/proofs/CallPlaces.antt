@@ -13,13 +13,13 @@ use Rattle.format.specs.declared.FileVariant.{FileVariant}
 use Rattle.format.specs.declared.Refusal.{Refusal}
 use Rattle.format.specs.Base.{Bytes, Out, ok, refused, refusal, bind, map-out, need}
 use Rattle.format.specs.Classes.{header-numbers, record-numbers, call-numbers, among}
-use Rattle.format.specs.Body.{Body, body-categories, read-body, type-leans}
+use Rattle.format.specs.Body.{Body, body-categories, body-phases, read-body, type-leans}
 use Rattle.format.specs.Variant.{file-variant, next-variant, block-of, anchor}
 use Rattle.format.specs.Layout.{sum, first-record, Layout, fixed-of, record-start, LayoutObeys}
 use Rattle.format.specs.Header.{read-layout}
-use Rattle.format.specs.File.{next-anchor, read-records, read-all, type-of, variant-leans, read-over, read-variant}
-use Rattle.format.specs.Reply.{refusal-of, holds-row, holds-set, with-layout, checked, past-last, header-call, check-out, check-call, read-out}
-use Rattle.format.specs.Reply.{read-call, lookup-out, lookup-call, view-out, view-call, flip-out, flip-call}
+use Rattle.format.specs.File.{next-anchor, read-records, read-all, type-of, variant-leans, read-over, over-as, variant-as}
+use Rattle.format.specs.Reply.{refusal-of, holds-row, holds-set, with-layout, checked, past-last, header-call, check-out, check-call, out-as}
+use Rattle.format.specs.Reply.{read-as, read-call, phases-call, lookup-out, lookup-call, view-out, view-call, flip-out, flip-call}
 use Rattle.format.proofs.Rules.{Holds, by-test, never-both}
 use Rattle.format.proofs.Refuses.{Refuses, Among, HeaderNumber, RecordNumber, every, class-holds}
 use Rattle.format.proofs.AnchorLaws.{IsAnchor, anchor-is}
@@ -60,7 +60,7 @@ IfRecord Q why = RecordNumber (why .number) → Q why
 module _ (K : ℕ) (l : Layout) (y : AllBytes (l .bodies)) where
   over-places : (lent : List ℕ) (u : FileVariant) → u .0 < length (l .bodies)
       → RefusalIs (RefusedWithin (record-start K l u) (record-start K l (next-variant u))) (read-over K l lent u)
-  unfolding read-over
+  unfolding over-as
   over-places lent u m =
       is-map _ _ (read-body (record-start K l (next-variant u)) (l .samples) lent (type-of l u) (getD (l .bodies) (u .0) []))
       (body-places (record-start K l u) (record-start K l (next-variant u)) (l .samples) lent (type-of l u) (getD (l .bodies) (u .0) [])
@@ -83,10 +83,23 @@ module _ (K : ℕ) (l : Layout) (y : AllBytes (l .bodies)) where
       go (ok row left) e = tt
       go (refused why) e = fault lent u m why e
 
+  -- whatever is read of a record, it is refused alike
+  as-faults : {A : Type 0} (what : ℕ → List ℕ → Body → A) (lent : List ℕ) (u : FileVariant) → u .0 < length (l .bodies)
+      → RefusalIs (IfRecord (λ (w : Refusal). InRecord K l w u)) (over-as what K l lent u)
+  unfolding over-as
+  as-faults what lent u m =
+      alike (read-body (record-start K l (next-variant u)) (l .samples) lent (type-of l u) (getD (l .bodies) (u .0) [])) (over-faults lent u m)
+    where
+      alike : (out : Out Body) → RefusalIs (IfRecord (λ (w : Refusal). InRecord K l w u)) (map-out (body-categories (l .samples) lent) out)
+          → RefusalIs (IfRecord (λ (w : Refusal). InRecord K l w u)) (map-out (what (l .samples) lent) out)
+      alike (ok body left) r = tt
+      alike (refused why) r = r
+
   -- a variant and its anchor
-  variant-faults : zero < K → LayoutObeys K l → (v : FileVariant) → v .0 < length (l .bodies) → RefusalIs (IfRecord (RecordOf K v l)) (read-variant K l v)
-  unfolding read-variant
-  variant-faults p h v m =
+  variant-faults : {A : Type 0} (what : ℕ → List ℕ → Body → A) → zero < K → LayoutObeys K l → (v : FileVariant) → v .0 < length (l .bodies)
+      → RefusalIs (IfRecord (RecordOf K v l)) (variant-as what K l v)
+  unfolding variant-as
+  variant-faults what p h v m =
       by-test (RefusalIs (IfRecord (RecordOf K v l))) (variant-leans l v)
       (λ t.
       let a : IsAnchor K (l .types) v (anchor K (l .types) v)
@@ -97,8 +110,8 @@ module _ (K : ℕ) (l : Layout) (y : AllBytes (l .bodies)) where
       (λ lent left. own lent))
       (λ t. own [])
     where
-      own : (lent : List ℕ) → RefusalIs (IfRecord (RecordOf K v l)) (read-over K l lent v)
-      own lent = is-wider _ _ (read-over K l lent v) (λ why k r. (v, its-own refl, k r)) (over-faults lent v m)
+      own : (lent : List ℕ) → RefusalIs (IfRecord (RecordOf K v l)) (over-as what K l lent v)
+      own lent = is-wider _ _ (over-as what K l lent v) (λ why k r. (v, its-own refl, k r)) (as-faults what lent v m)
 
 -- all records, from one that starts at `start`: which one is refused
 record StoredFault (N start : ℕ) (types : List ℕ) (stored : List (List ℕ)) (why : Refusal) : Type 0 where
@@ -137,7 +150,7 @@ records-faults N start lent (type ∷ types) (bs ∷ stored) =
     }
 
 all-faults : (K : ℕ) (l : Layout) → AllBytes (l .bodies) → RefusalIs (IfRecord (SomeRecord K l)) (read-all K l)
-unfolding read-all read-over record-start
+unfolding read-all over-as record-start
 all-faults K l y =
     is-wider _ _ (read-records (l .samples) (first-record K (fixed-of l)) [] (l .types) (l .bodies)) (λ why f t.
     let u : FileVariant = file-variant (f .index) in
@@ -226,10 +239,11 @@ module _ (K : ℕ) (file : List ℕ) (p : zero < K) (y : Bytes file) where
       → RefusalIs (PlaceIs K file (SomeRecord K)) (checked K l)
   checked-placed l e h z = is-map _ _ (read-all K l) (records-placed K file _ l (read-all K l) e (all-refusals K l p h z) (all-faults K l z))
 
-  variant-placed : (v : FileVariant) (l : Layout) → read-layout K file ≡ ok l [] → LayoutObeys K l → AllBytes (l .bodies) → v .0 < length (l .bodies)
-      → RefusalIs (PlaceIs K file (RecordOf K v)) (read-variant K l v)
-  variant-placed v l e h z m =
-      records-placed K file _ l (read-variant K l v) e (variant-refusals K l p h z v m) (variant-faults K l z p h v m)
+  variant-placed : {A : Type 0} (what : ℕ → List ℕ → Body → A) (v : FileVariant) (l : Layout)
+      → read-layout K file ≡ ok l [] → LayoutObeys K l → AllBytes (l .bodies) → v .0 < length (l .bodies)
+      → RefusalIs (PlaceIs K file (RecordOf K v)) (variant-as what K l v)
+  variant-placed what v l e h z m =
+      records-placed K file _ l (variant-as what K l v) e (variant-refusals K l p h z what v m) (variant-faults K l z what p h v m)
 
   pub check-place : (work : List ℕ) → PlaceIs K file (SomeRecord K) (check-call K file work .reply .verdict .refusal)
   unfolding check-call
@@ -242,13 +256,21 @@ module _ (K : ℕ) (file : List ℕ) (p : zero < K) (y : Bytes file) where
       (sized-placed K file _ p y (λ (l : Layout). holds-set set l && holds-row work l) _ (λ l e h z.
       is-need _ (eqb (past-last (length (l .bodies)) set) 0) 21 0 _ (λ t. of-call K file _ 21 refl) (λ t. checked-placed l e h z)))
 
-  pub read-place : (v : FileVariant) (output work : List ℕ) → PlaceIs K file (RecordOf K v) (read-call K file v output work .verdict .refusal)
-  unfolding read-call
-  read-place v output work =
-      placed K file _ (read-out K file v output work)
+  as-placed : (what : ℕ → List ℕ → Body → List ℕ) (v : FileVariant) (output work : List ℕ)
+      → PlaceIs K file (RecordOf K v) (read-as what K file v output work .verdict .refusal)
+  as-placed what v output work =
+      placed K file _ (out-as what K file v output work)
       (sized-placed K file _ p y (λ (l : Layout). holds-row output l && holds-row work l) _ (λ l e h z.
       is-need _ (ltb (v .0) (length (l .bodies))) 11 0 _ (λ t. of-call K file _ 11 refl) (λ t.
-      variant-placed v l e h z (ltb-true (v .0) (length (l .bodies)) t))))
+      variant-placed what v l e h z (ltb-true (v .0) (length (l .bodies)) t))))
+
+  pub read-place : (v : FileVariant) (output work : List ℕ) → PlaceIs K file (RecordOf K v) (read-call K file v output work .verdict .refusal)
+  unfolding read-call
+  read-place v output work = as-placed body-categories v output work
+
+  pub phases-place : (v : FileVariant) (output work : List ℕ) → PlaceIs K file (RecordOf K v) (phases-call K file v output work .verdict .refusal)
+  unfolding phases-call
+  phases-place v output work = as-placed body-phases v output work
 
   pub lookup-place : (v : FileVariant) (sample : ℕ) (work : List ℕ) → PlaceIs K file (RecordOf K v) (lookup-call K file v sample work .verdict .refusal)
   unfolding lookup-call
@@ -257,7 +279,7 @@ module _ (K : ℕ) (file : List ℕ) (p : zero < K) (y : Bytes file) where
       (sized-placed K file _ p y (holds-row work) _ (λ l e h z.
       is-need _ (ltb (v .0) (length (l .bodies))) 11 0 _ (λ t. of-call K file _ 11 refl) (λ t.
       is-need _ (ltb sample (l .samples)) 11 0 _ (λ u. of-call K file _ 11 refl) (λ u.
-      variant-placed v l e h z (ltb-true (v .0) (length (l .bodies)) t)))))
+      variant-placed body-categories v l e h z (ltb-true (v .0) (length (l .bodies)) t)))))
 
   -- of a start of rows, which looks at no record
   pub start-place : {A : Type 0} (work : List ℕ) (first : Layout → A)

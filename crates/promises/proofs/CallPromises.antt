@@ -13,15 +13,16 @@ use borrow.Author.Tests.{ltb-true, le-leb, lt-ltb}
 use Rattle.format.specs.declared.FileVariant.{FileVariant}
 use Rattle.format.specs.Base.{Bytes, Out, ok, refused, bind}
 use Rattle.format.specs.Classes.{header-numbers}
+use Rattle.format.specs.Body.{Body, body-categories, body-phases}
 use Rattle.format.specs.Layout.{Layout, layout-bytes, record-start, LayoutObeys}
 use Rattle.format.specs.Header.{read-layout}
-use Rattle.format.specs.File.{File, layout-of-file, file-bytes, rows, Obeys, read-variant}
-use Rattle.format.specs.Reply.{refusal-of, given, header-call, need-variant, read-call, lookup-call, view-out, view-call}
+use Rattle.format.specs.File.{File, layout-of-file, file-bytes, rows, phase-rows, Obeys, read-variant, variant-as}
+use Rattle.format.specs.Reply.{refusal-of, given, header-call, need-variant, read-as, read-call, phases-call, lookup-call, view-out, view-call}
 use Rattle.format.proofs.Rules.{Holds, by-test, by-need, by-bind}
 use Rattle.format.proofs.HeaderLaws.{layout-read-back, IsLayout, layout-as-written}
 use Rattle.format.proofs.HeaderRefusals.{header-refusals}
 use Rattle.format.proofs.CallRefusals.{view-numbers, view-refusals}
-use Rattle.format.proofs.ReadsLaws.{variant-reads}
+use Rattle.format.proofs.ReadsLaws.{variant-reads, variant-phases}
 use Rattle.head_index.proofs.StartLaws.{body-length-at, body-at-is}
 use Rattle.promises.proofs.CallLaws.{accepted, counted}
 
@@ -69,24 +70,43 @@ unfolding view-call
 view-starts K l v p h there = ap (given (λ (seen : Layout). record-start K seen v) 0) (view-passes K l v p h there)
 
 module _ (K : ℕ) (f : File) (v : FileVariant) (p : zero < K) (h : Obeys K f) (there : v .0 < length (f .bodies)) where
-  -- the categories that the format defines
+  -- the categories that the format defines, and the phases
   abbrev row : List ℕ
   row = getD (rows (f .samples) [] (f .bodies)) (v .0) []
+
+  abbrev phase-row : List ℕ
+  phase-row = getD (phase-rows (f .samples) [] (f .bodies)) (v .0) []
+
+  -- whatever a variant of a file that obeys reads as, a call gives it
+  as-read : (what : ℕ → List ℕ → Body → List ℕ) (value : List ℕ) → variant-as what K (layout-of-file f) v ≡ ok value [] → (output work : List ℕ)
+      → f .samples ≤ length output → f .samples ≤ length work
+      → (read-as what K (file-bytes K f) v output work .verdict .refusal .number ≡ 0)
+      × (read-as what K (file-bytes K f) v output work .output ≡ value ++ drop (f .samples) output)
+      × (read-as what K (file-bytes K f) v output work .work ≡ replicate (f .samples) 0 ++ drop (f .samples) work)
+  unfolding file-bytes
+  as-read what value reads output work o w =
+      let l : Layout = layout-of-file f in
+      let header : read-layout K (layout-bytes K l) ≡ ok l [] = layout-read-back K l p (h .layout) in
+      let short : leb (f .samples) (length output) ≡ true = le-leb (f .samples) (length output) o in
+      let shorter : leb (f .samples) (length work) ≡ true = le-leb (f .samples) (length work) w in
+      let below : ltb (v .0) (length (l .bodies)) ≡ true = lt-ltb (v .0) (length (l .bodies)) (omega (arith, counted f)) in
+      (simp (header, short, shorter, below, reads), simp (header, short, shorter, below, reads), simp (header, short, shorter, below, reads))
 
   -- DEMAND 2: a variant of a file that obeys is read as the format defines
   pub read-call-reads : (output work : List ℕ) → f .samples ≤ length output → f .samples ≤ length work
       → (read-call K (file-bytes K f) v output work .verdict .refusal .number ≡ 0)
       × (read-call K (file-bytes K f) v output work .output ≡ row ++ drop (f .samples) output)
       × (read-call K (file-bytes K f) v output work .work ≡ replicate (f .samples) 0 ++ drop (f .samples) work)
-  unfolding read-call file-bytes
-  read-call-reads output work o w =
-      let l : Layout = layout-of-file f in
-      let header : read-layout K (layout-bytes K l) ≡ ok l [] = layout-read-back K l p (h .layout) in
-      let short : leb (f .samples) (length output) ≡ true = le-leb (f .samples) (length output) o in
-      let shorter : leb (f .samples) (length work) ≡ true = le-leb (f .samples) (length work) w in
-      let below : ltb (v .0) (length (l .bodies)) ≡ true = lt-ltb (v .0) (length (l .bodies)) (omega (arith, counted f)) in
-      let reads : read-variant K l v ≡ ok row [] = variant-reads K f p h v there in
-      (simp (header, short, shorter, below, reads), simp (header, short, shorter, below, reads), simp (header, short, shorter, below, reads))
+  unfolding read-call
+  read-call-reads output work o w = as-read body-categories row (variant-reads K f p h v there) output work o w
+
+  -- and so are its phases
+  pub phases-call-reads : (output work : List ℕ) → f .samples ≤ length output → f .samples ≤ length work
+      → (phases-call K (file-bytes K f) v output work .verdict .refusal .number ≡ 0)
+      × (phases-call K (file-bytes K f) v output work .output ≡ phase-row ++ drop (f .samples) output)
+      × (phases-call K (file-bytes K f) v output work .work ≡ replicate (f .samples) 0 ++ drop (f .samples) work)
+  unfolding phases-call
+  phases-call-reads output work o w = as-read body-phases phase-row (variant-phases K f p h v there) output work o w
 
   -- and so is each of its samples
   pub lookup-call-reads : (sample : ℕ) (work : List ℕ) → sample < f .samples → f .samples ≤ length work

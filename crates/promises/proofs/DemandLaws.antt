@@ -1,7 +1,7 @@
 -- What the three demands say of a call, where the laws speak of its parts.
 -- Assumes nothing.
 use mathlib.Core.Path.{_≡_, refl, sym, ap, _∙_, subst}
-use Prim.Native.Nat.{ℕ}
+use Prim.Native.Nat.{ℕ, min}
 use mathlib.Core.Bool.{Bool, true, false, not, _||_}
 use mathlib.Core.List.{List, [], _∷_, _++_}
 use lib.ListN.{length, getD, take, drop}
@@ -28,7 +28,9 @@ use Rattle.head_places.specs.declared.Place.{Place}
 use Rattle.read_record.specs.Recorded.{RecordLeft, record-left}
 use Rattle.call_rows.specs.declared.Rows.{Rows}
 use Rattle.call_rows.specs.Calls.{next-record, Left, alone, leaning, read-at, stepped, next-row-in, next-row-call}
+use Rattle.call_rows.specs.Phased.{LeftPhased, phased-stepped, next-phased-row-in, next-phased-row-call}
 use Rattle.call_rows.proofs.RowRefusals.{next-row-numbers, next-row-refusals, refused-next-row, refused-next-row-stays}
+use Rattle.call_rows.proofs.PhasedRows.{refused-phases, next-phased-row-refusals, refused-next-phased-row, refused-next-phased-row-stays}
 use Rattle.promises.proofs.FlipPromises.{done}
 use Rattle.promises.proofs.KeptPlaces.{Outside, call-keeps}
 
@@ -114,6 +116,37 @@ module _ (rows : Rows) (file output work : List ℕ) where
       pub step-stays : keeps-work (next-row-call rows file output work .verdict .refusal .number) ≡ true
           → (next-row-call rows file output work .rows ≡ rows) × (next-row-call rows file output work .work ≡ work)
       step-stays = refused-next-row-stays rows file output work y (told-refused step-numbered h)
+
+  -- and one that gives phases too
+  module _ (phases : List ℕ) where
+    abbrev both : LeftPhased
+    both = next-phased-row-call rows file output phases work
+
+    both-stepped-plain : (m : Out Place) → Plain (phased-stepped rows file output phases work m .row)
+    both-stepped-plain (refused why) = λ e. never-both e refl
+    both-stepped-plain (ok p left) =
+        by-test (λ (x : LeftPhased). Plain (x .row)) (type-leans (p .record_type))
+        (λ t. by-test Plain (eqb (rows .refusal .number) 0) (λ z. leaning-plain (p .end) (read-at rows file p _)) (λ z e. never-both e refl))
+        (λ t. alone-plain (p .end) (read-at rows file p work))
+
+    both-plain : Plain (both .row)
+    unfolding next-phased-row-call next-phased-row-in
+    both-plain = both-stepped-plain (next-record rows file file (min (length output) (length phases)) (length work))
+
+    module _ (y : Bytes file) where
+      pub both-numbered : Numbered next-row-numbers (both .row .verdict)
+      both-numbered =
+          made-numbered next-row-numbers refl (both .row .verdict) both-plain (λ e. next-phased-row-refusals rows file output phases work e y)
+
+      module _ (h : both .row .verdict .refusal .number ≡ 0 → ⊥) where
+        denied : both .row .verdict .accepted ≡ false
+        denied = told-refused both-numbered h
+
+        pub both-untouched : (both .row .output ≡ output) × (both .phases ≡ phases)
+        both-untouched = (refused-next-phased-row rows file output phases work denied y, refused-phases rows file output phases work denied)
+
+        pub both-stays : keeps-work (both .row .verdict .refusal .number) ≡ true → (both .row .rows ≡ rows) × (both .row .work ≡ work)
+        both-stays = refused-next-phased-row-stays rows file output phases work denied y
 
 -- ---- the writer, and flips
 

@@ -1,7 +1,8 @@
--- THE THREE DEMANDS, each as one statement about the public calls: open this file first. Above each field stands its plain sentence; DemandsHold has the
--- proofs, by laws that docs/THEOREMS.md names. What a call replies and leaves is its definition in format's specs/Reply, of rows in call_rows' specs/Calls,
--- and that the program does so is the first thing said. A file, a set and an output are lists of numbers; `Bytes` says that each is below 256: every lent
--- slice of `u8` is so by its type, so what is said of `Bytes` holds of whatever a program is lent.
+-- THE THREE DEMANDS, each as one statement about the public calls: open this file first; the field `phased` of each is its part in PhasedDemands, so that
+-- demands 2 and 3 read categories and phases together. Above each field stands its plain sentence; DemandsHold has the proofs, by laws that docs/THEOREMS.md
+-- names. What a call replies and leaves is its definition in format's specs/Reply, of rows in call_rows' specs/Calls, and that the program does so is the
+-- first thing said. A file, a set and an output are lists of numbers; `Bytes` says that each is below 256: every lent slice of `u8` is so by its type, so
+-- what is said of `Bytes` holds of whatever a program is lent.
 -- Assumes nothing.
 use mathlib.Core.Path.{_≡_}
 use mathlib.Core.Logic.{_↔_}
@@ -14,7 +15,7 @@ use Rattle.format.specs.declared.Refusal.{Refusal}
 use Rattle.format.specs.Base.{pick, Below, Bytes, Out, ok, map-out}
 use Rattle.format.specs.Limits.{variants-to-a-block}
 use Rattle.format.specs.Classes.{header-numbers, record-numbers, writer-numbers}
-use Rattle.format.specs.Category.{just-one}
+use Rattle.format.specs.Category.{exchange-all, just-one}
 use Rattle.format.specs.Track.{leans, Track, track-bytes}
 use Rattle.format.specs.Body.{read-body, body-categories}
 use Rattle.format.specs.Variant.{anchor}
@@ -27,6 +28,7 @@ use Rattle.call_rows.specs.declared.Rows.{Rows}
 use Rattle.call_rows.specs.Calls.{Left, start-rows-call, next-row-call}
 use Rattle.promises.proofs.Programs.{Meets, Says}
 use Rattle.promises.proofs.DemandLaws.{OneOf, Numbered}
+use Rattle.promises.proofs.PhasedDemands.{Phased-1, Phased-2, Phased-3}
 use Rattle.promises.proofs.CallPlaces.{PlaceIs, SomeRecord, RecordOf}
 use Rattle.promises.proofs.WritePlaces.{WritePlaceIs}
 use Rattle.promises.proofs.WorkLeft.{WorkLeft}
@@ -140,9 +142,12 @@ pub record Demand-1 (M : Type 1) : Type 2 where
   pub next-row-stays : (state : Rows) (file output work : List ℕ) → Bytes file → Refused (next-row state file output work .verdict)
       → keeps-work (next-row state file output work .verdict .refusal .number) ≡ true
       → (next-row state file output work .rows ≡ state) × (next-row state file output work .work ≡ work)
+  -- The same of the three calls that read, step through and write phases.
+  pub phased : Phased-1
 
--- "A file is accepted exactly when it obeys the format, and each variant then reads as the format defines. What is written reads back. What is read and
--- written again gives the same bytes, except the bits that kind 1 holds for samples it also lists."
+-- "A file is accepted exactly when it obeys the format, and each variant's categories and phases then read as the format defines. What is written reads
+-- back. What is read and written again gives the same bytes, except the bits that kind 1 holds for samples it also lists, and phase tracks with presence
+-- bits though every call is phased."
 pub record Demand-2 : Type 0 where
   -- The header check accepts exactly the bytes of a header and of records in their places that obey.
   pub header-accepts : (file : List ℕ) → Bytes file
@@ -152,7 +157,7 @@ pub record Demand-2 : Type 0 where
       → Accepted (check file work .reply .verdict) ↔ ((f : File) × Obeys K f × (file ≡ file-bytes K f) × (f .samples ≤ length work))
   -- A read is accepted exactly when the header, the variant's record and its anchor's obey, the variant is there, and output and work area have N bytes;
   pub read-accepts : (file : List ℕ) (v : FileVariant) (output work : List ℕ) → Bytes file
-      → Accepted (read file v output work .verdict) ↔ ((row : List ℕ) × MayRead K file v output work row)
+      → Accepted (read file v output work .verdict) ↔ ((row : List ℕ) × MayRead body-categories K file v output work row)
   -- a lookup likewise, and when the sample is below N;
   pub lookup-accepts : (file : List ℕ) (v : FileVariant) (sample : ℕ) (work : List ℕ) → Bytes file
       → Accepted (lookup file v sample work .verdict) ↔ ((row : List ℕ) × MayLookUp K file v sample work row)
@@ -202,15 +207,17 @@ pub record Demand-2 : Type 0 where
       → (end : ℕ)
       → map-out (body-categories (length categories) anchor) (read-body end (length categories) anchor kind
       (take (write categories kind code anchor output .count) (write categories kind code anchor output .output))) ≡ ok categories []
-  -- Of a file whose header obeys, what an accepted read gave of a variant, written in the record's own kind and code against what an accepted read gave of
-  -- its anchor, if it leans, is the record again, but for the bits that kind 1 holds for listed samples.
+  -- Of a file whose header obeys, what an accepted read gave of a variant with no phase track, written in the record's own kind and code against what an
+  -- accepted read gave of its anchor, if it leans, is the record again, but for the bits that kind 1 holds for listed samples.
   pub written-again : (file : List ℕ) (l : Layout) (v : FileVariant) → Bytes file → LayoutObeys K l → file ≡ layout-bytes K l
       → (output work lent-output lent-work : List ℕ) → Accepted (read file v output work .verdict)
       → (variant-leans l v ≡ true → Accepted (read file (anchor K (l .types) v) lent-output lent-work .verdict))
       → IsWrittenAgain K file l v (read file v output work) (read file (anchor K (l .types) v) lent-output lent-work)
+  -- Each variant reads as its categories and its phases: the same of the calls that read, step through and write both.
+  pub phased : Phased-2
 
 -- "Flip any set of variants in the stored bytes: the file is still accepted, with the same lengths and offsets. Members read with categories 0 and 2
--- exchanged, all others as before. Flipping one set and then a second is flipping the variants in just one of the two."
+-- exchanged, and phases 1 and 2, all others as before. Flipping one set and then a second is flipping the variants in just one of the two."
 pub record Demand-3 : Type 0 where
   -- A flip is accepted exactly when the file obeys, the set has a bit for each variant and none past the last, and the work area has N bytes.
   pub flip-accepts : (file set work : List ℕ) → Bytes file → Bytes set
@@ -230,7 +237,7 @@ pub record Demand-3 : Type 0 where
   -- Any read, before and after: members have 0 and 2 exchanged, and all else that the read replies and leaves is as it was;
   pub members-exchanged : (file set work : List ℕ) → Bytes file → Bytes set → Accepted (flip file set work .verdict)
       → (v : FileVariant) (output work₁ : List ℕ)
-      → ReadsExchanged (member set v) (samples-of K file) (read file v output work₁) (read (flip file set work .file) v output work₁)
+      → ReadsExchanged exchange-all (member set v) (samples-of K file) (read file v output work₁) (read (flip file set work .file) v output work₁)
   -- of a variant that is not in the set the read is the same.
   pub others-as-before : (file set work : List ℕ) → Bytes file → Bytes set → Accepted (flip file set work .verdict)
       → (v : FileVariant) (output work₁ : List ℕ) → member set v ≡ false
@@ -246,3 +253,5 @@ pub record Demand-3 : Type 0 where
       → samples-of K file ≤ length work₁
       → Accepted (flip (flip file set work .file) set work₁ .verdict)
       × (flip (flip file set work .file) set work₁ .file ≡ file)
+  -- Members read with their phases exchanged too, all others as before.
+  pub phased : Phased-3

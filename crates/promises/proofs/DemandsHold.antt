@@ -6,6 +6,8 @@ use lib.ListN.{length}
 use lib.Dec.{lit<}
 use Rattle.format.specs.Limits.{variants-to-a-block}
 use Rattle.format.specs.Classes.{header-numbers, writer-numbers}
+use Rattle.format.specs.Category.{exchange-all}
+use Rattle.format.specs.Body.{body-categories}
 use Rattle.format.specs.Layout.{Layout, fields-of, fixed-of}
 use Rattle.format.specs.Header.{read-layout}
 use Rattle.format.specs.Writer.{write-record}
@@ -24,6 +26,7 @@ use Rattle.promises.proofs.WritePlaces.{write-place}
 use Rattle.promises.proofs.WorkLeft.{check-work, read-work, lookup-work, flip-work}
 use Rattle.promises.proofs.CallPromises.{header-call-exactly, view-exactly, view-gives, view-starts, read-call-reads, lookup-call-reads}
 use Rattle.promises.proofs.ReadExactly.{read-exactly, lookup-exactly}
+use Rattle.promises.proofs.Readings.{categories-reading}
 use Rattle.promises.proofs.WriteExactly.{record-for-exactly, write-exactly, write-gives}
 use Rattle.promises.proofs.WrittenAgain
 use Rattle.promises.proofs.RowsAreReads.{rows-are-reads}
@@ -31,6 +34,7 @@ use Rattle.promises.proofs.CheckedRows.{no-row-refused}
 use Rattle.promises.proofs.FlipExactly.{flip-exactly}
 use Rattle.promises.proofs.FlipCalls.{flip-call-checked, flip-call-reads, flip-call-others, flip-call-xor, flip-call-twice}
 use Rattle.promises.proofs.KeptPlaces.{call-same-length}
+use Rattle.promises.proofs.PhasedDemands.{phased-1, phased-2, phased-3}
 use Rattle.promises.proofs.Demands.{Demand-1, Demand-2, Demand-3}
 
 abbrev K : ℕ
@@ -44,7 +48,7 @@ demand-1 = record {
   header-numbers-are = λ file. verdict-numbered header-numbers refl (read-layout K file) (header-refusals K file);
   check-numbers-are = λ file work y. verdict-numbered check-numbers refl (check-out K file work) (check-refusals K file work (lit< tt) y);
   read-numbers-are = λ file v output work y.
-      verdict-numbered read-call-numbers refl (read-out K file v output work) (read-refusals K file v output work (lit< tt) y);
+      verdict-numbered read-call-numbers refl (read-out K file v output work) (read-refusals body-categories K file v output work (lit< tt) y);
   lookup-numbers-are = λ file v sample work y.
       verdict-numbered read-call-numbers refl (lookup-out K file v sample work) (lookup-refusals K file v sample work (lit< tt) y);
   view-numbers-are = λ file v. one-of view-numbers (view-out K file v) (view-refusals K file v);
@@ -72,13 +76,15 @@ demand-1 = record {
   lookup-leaves = lookup-work K;
   flip-leaves = flip-work K;
   next-row-stays = step-stays;
+  phased = phased-1;
 }
 
 pub demand-2 : Demand-2
+unfolding read-call
 demand-2 = record {
   header-accepts = λ file y. header-call-exactly K file (lit< tt) y;
   check-accepts = λ file work y. check-exactly K file work (lit< tt) y;
-  read-accepts = λ file v output work y. read-exactly K file v output work (lit< tt) y;
+  read-accepts = λ file v output work y. read-exactly body-categories K file v output work (lit< tt) y;
   lookup-accepts = λ file v sample work y. lookup-exactly K file v sample work (lit< tt) y;
   view-accepts = λ file v y. view-exactly K file v (lit< tt) y;
   views = λ l v h there. view-gives K l v (lit< tt) h there;
@@ -92,18 +98,21 @@ demand-2 = record {
   kinds-and-codes = record-for-exactly;
   reads-back = written-back;
   written-again = λ file l v y h w. WrittenAgain.written-again K file l (lit< tt) y h w v;
+  phased = phased-2;
 }
 
 pub demand-3 : Demand-3
+unfolding read-call
 demand-3 = record {
   flip-accepts = λ file set work y z. flip-exactly K file set work (lit< tt) z y;
   still-accepted = λ file set work work₁ y z q r. flip-call-checked K (lit< tt) file set work y z q work₁ r;
   same-lengths-and-offsets = same-layout;
   same-length = call-same-length;
   same-elsewhere = kept-places;
-  members-exchanged = λ file set work y z q. flip-call-reads K (lit< tt) file set work y z q;
-  others-as-before = λ file set work y z q. flip-call-others K (lit< tt) file set work y z q;
+  members-exchanged = λ file set work y z q. flip-call-reads K (lit< tt) file set work y z q body-categories exchange-all (categories-reading K (lit< tt));
+  others-as-before = λ file set work y z q. flip-call-others K (lit< tt) file set work y z q body-categories exchange-all (categories-reading K (lit< tt));
   just-one-of-two = λ file set work second work₁ both work₂ y z z₁ z₂ q q₁ n e r.
       flip-call-xor K (lit< tt) file set work y z q second work₁ both work₂ z₁ z₂ q₁ n e r;
   twice-restores = λ file set work work₁ y z q r. flip-call-twice K (lit< tt) file set work y z q work₁ r;
+  phased = phased-3;
 }

@@ -4,38 +4,39 @@ use mathlib.Core.Path.{_≡_, refl, sym, ap, ap₂, _∙_, subst, fun-ext}
 use Prim.Native.Nat.{ℕ, zero, _≤_, _<_}
 use mathlib.Core.Bool.{Bool, true, false, _&&_}
 use mathlib.Core.List.{List, [], _++_}
-use lib.ListN.{length, take, drop, getD}
+use lib.ListN.{length, take, drop}
 use lib.Seq.{take-at, drop-at}
 use lib.Dec.{ltb, leb}
 use native.Mathlib.Omega.{arith}
 use borrow.Author.Tests.{ltb-true}
 use Rattle.format.specs.declared.FileVariant.{FileVariant}
 use Rattle.format.specs.Base.{Bytes, Out, ok, bind, need}
-use Rattle.format.specs.Category.{exchange-all, just-one}
+use Rattle.format.specs.Category.{just-one}
+use Rattle.format.specs.Body.{Body}
 use Rattle.format.specs.Variant.{file-variant}
 use Rattle.format.specs.Layout.{Layout}
-use Rattle.format.specs.File.{File, layout-of-file, file-bytes, rows, Obeys, read-variant, flip-file, pgen-file, flip-bytes}
+use Rattle.format.specs.File.{File, layout-of-file, file-bytes, Obeys, variant-as, flip-file, pgen-file, flip-bytes}
 use Rattle.format.specs.Reply.{Read, verdict, refusal-of, given, work-after, samples-of, holds-row, need-variant, member, check-out, check-call}
-use Rattle.format.specs.Reply.{read-out, read-call, flip-call}
+use Rattle.format.specs.Reply.{out-as, read-as, flip-call}
 use Rattle.format.proofs.Rules.{Holds, never-both}
-use Rattle.format.proofs.CategoryLaws.{exchange-all-none, exchange-all-length}
 use Rattle.format.proofs.FlipBodiesLaws.{flip-count}
 use Rattle.format.proofs.ContainerLaws
 use Rattle.format.proofs.FlipLaws.{flip-obeys, pgen-laws, flip-xor, flip-twice}
 use Rattle.format.proofs.HeaderLaws.{layout-read-back}
 use Rattle.format.proofs.FileLaws.{file-unique}
-use Rattle.format.proofs.ReadsLaws.{variant-reads}
 use Rattle.promises.proofs.CallLaws.{counted, passes}
-use Rattle.promises.proofs.ReadExactly.{VariantReads, variant-as-written, variant-row}
+use Rattle.promises.proofs.ReadExactly.{VariantReads, variant-as-written}
+use Rattle.promises.proofs.Readings.{row-as, IsReading}
 use Rattle.promises.proofs.FlipExactly.{IsSet, MayFlip, flip-passes, flip-exactly}
 
 -- ---- a read and the same read of the flipped file
 
--- reply and work area are the same, and all of the output but the first N bytes of an accepted read: there 0 and 2 are exchanged for a member
-pub record ReadsExchanged (is-member : Bool) (N : ℕ) (before now : Read) : Type 0 where
+-- reply and work area are the same, and all of the output but the first N bytes of an accepted read: there a member's are exchanged, categories 0 and 2 or
+-- phases 1 and 2
+pub record ReadsExchanged (exchange : Bool → List ℕ → List ℕ) (is-member : Bool) (N : ℕ) (before now : Read) : Type 0 where
   pub same-verdict : now .verdict ≡ before .verdict
   pub same-work : now .work ≡ before .work
-  pub exchanged : before .verdict .accepted ≡ true → take N (now .output) ≡ exchange-all is-member (take N (before .output))
+  pub exchanged : before .verdict .accepted ≡ true → take N (now .output) ≡ exchange is-member (take N (before .output))
   pub rest-same : drop N (now .output) ≡ drop N (before .output)
   pub refused-alike : before .verdict .accepted ≡ false → now .output ≡ before .output
 
@@ -51,20 +52,21 @@ reading N output work out = record {
 abbrev tested : Bool → Bool → List ℕ → Out (List ℕ)
 tested sized there row = need sized 10 0 (need there 11 0 (ok row []))
 
-compared : (b sized there : Bool) (N : ℕ) (row output work : List ℕ) → (there ≡ true → length row ≡ N)
-    → ReadsExchanged b N (reading N output work (tested sized there row)) (reading N output work (tested sized there (exchange-all b row)))
-compared b true true N row output work n =
-    let turned : length (exchange-all b row) ≡ N = exchange-all-length b row ∙ n refl in
+compared : (exchange : Bool → List ℕ → List ℕ) → ((b : Bool) (row : List ℕ) → length (exchange b row) ≡ length row)
+    → (b sized there : Bool) (N : ℕ) (row output work : List ℕ) → (there ≡ true → length row ≡ N)
+    → ReadsExchanged exchange b N (reading N output work (tested sized there row)) (reading N output work (tested sized there (exchange b row)))
+compared exchange as-long b true true N row output work n =
+    let turned : length (exchange b row) ≡ N = as-long b row ∙ n refl in
     record {
       same-verdict = refl;
       same-work = refl;
-      exchanged = λ t. take-at (exchange-all b row) (drop N output) N turned ∙ sym (ap (exchange-all b) (take-at row (drop N output) N (n refl)));
-      rest-same = drop-at (exchange-all b row) (drop N output) N turned ∙ sym (drop-at row (drop N output) N (n refl));
+      exchanged = λ t. take-at (exchange b row) (drop N output) N turned ∙ sym (ap (exchange b) (take-at row (drop N output) N (n refl)));
+      rest-same = drop-at (exchange b row) (drop N output) N turned ∙ sym (drop-at row (drop N output) N (n refl));
       refused-alike = λ t. never-both refl t;
     }
-compared b true false N row output work n =
+compared exchange as-long b true false N row output work n =
     record { same-verdict = refl; same-work = refl; exchanged = λ t. never-both t refl; rest-same = refl; refused-alike = λ t. refl }
-compared b false there N row output work n =
+compared exchange as-long b false there N row output work n =
     record { same-verdict = refl; same-work = refl; exchanged = λ t. never-both t refl; rest-same = refl; refused-alike = λ t. refl }
 
 module _ (K : ℕ) (p : zero < K) where
@@ -111,34 +113,32 @@ module _ (K : ℕ) (p : zero < K) where
 
   -- ---- a read of a file that obeys
 
-  abbrev row : File → FileVariant → List ℕ
-  row f v = getD (rows (f .samples) [] (f .bodies)) (v .0) []
+  module _ (what : ℕ → List ℕ → Body → List ℕ) (exchange : Bool → List ℕ → List ℕ) (kept : IsReading K what exchange) where
+    read-of-file : (f : File) (v : FileVariant) (output work : List ℕ) → Obeys K f
+        → out-as what K (file-bytes K f) v output work
+        ≡ tested (leb (f .samples) (length output) && leb (f .samples) (length work)) (ltb (v .0) (length (f .bodies))) (row-as what f v)
+    unfolding file-bytes
+    read-of-file f v output work h =
+        let l : Layout = layout-of-file f in
+        ap (λ (out : Out Layout). bind out (λ m left.
+        need (holds-row output m && holds-row work m) 10 0 (need-variant v m (variant-as what K m v)))) (layout-read-back K l p (h .layout))
+        ∙ ap (need (leb (f .samples) (length output) && leb (f .samples) (length work)) 10 0)
+        (ap (λ (M : ℕ). need (ltb (v .0) M) 11 0 (variant-as what K l v)) (counted f) ∙ go (ltb (v .0) (length (f .bodies))) refl)
+      where
+        go : (b : Bool) → ltb (v .0) (length (f .bodies)) ≡ b
+            → need b 11 0 (variant-as what K (layout-of-file f) v) ≡ need b 11 0 (ok (row-as what f v) [])
+        go true t = kept .reads f v h (ltb-true (v .0) (length (f .bodies)) t)
+        go false t = refl
 
-  read-of-file : (f : File) (v : FileVariant) (output work : List ℕ) → Obeys K f
-      → read-out K (file-bytes K f) v output work
-      ≡ tested (leb (f .samples) (length output) && leb (f .samples) (length work)) (ltb (v .0) (length (f .bodies))) (row f v)
-  unfolding file-bytes
-  read-of-file f v output work h =
-      let l : Layout = layout-of-file f in
-      ap (λ (out : Out Layout). bind out (λ m left.
-      need (holds-row output m && holds-row work m) 10 0 (need-variant v m (read-variant K m v)))) (layout-read-back K l p (h .layout))
-      ∙ ap (need (leb (f .samples) (length output) && leb (f .samples) (length work)) 10 0)
-      (ap (λ (M : ℕ). need (ltb (v .0) M) 11 0 (read-variant K l v)) (counted f) ∙ go (ltb (v .0) (length (f .bodies))) refl)
-    where
-      go : (b : Bool) → ltb (v .0) (length (f .bodies)) ≡ b
-          → need b 11 0 (read-variant K (layout-of-file f) v) ≡ need b 11 0 (ok (row f v) [])
-      go true t = variant-reads K f p h v (ltb-true (v .0) (length (f .bodies)) t)
-      go false t = refl
-
-  -- a row has N categories
-  row-counted : (file : List ℕ) (f : File) (v : FileVariant) → Bytes file → Obeys K f → file ≡ file-bytes K f → v .0 < length (f .bodies)
-      → length (row f v) ≡ f .samples
-  unfolding file-bytes
-  row-counted file f v y h w there =
-      let l : Layout = layout-of-file f in
-      let reads : VariantReads K l v (row f v)
-      = subst (Holds (λ (x left : List ℕ). VariantReads K l v x)) (variant-reads K f p h v there) (variant-as-written K file p y l (h .layout) w v) in
-      variant-row K l v (row f v) p (h .layout) (omega (arith, counted f)) reads .0
+    -- a row has N numbers
+    row-counted : (file : List ℕ) (f : File) (v : FileVariant) → Bytes file → Obeys K f → file ≡ file-bytes K f → v .0 < length (f .bodies)
+        → length (row-as what f v) ≡ f .samples
+    unfolding file-bytes
+    row-counted file f v y h w there =
+        let l : Layout = layout-of-file f in
+        let reads : VariantReads what K l v (row-as what f v)
+        = subst (Holds (λ (x left : List ℕ). VariantReads what K l v x)) (kept .reads f v h there) (variant-as-written K file p y l (h .layout) w what v) in
+        kept .wide l v (row-as what f v) (h .layout) (omega (arith, counted f)) reads
 
   -- ---- one call after another
 
@@ -203,7 +203,8 @@ module _ (K : ℕ) (p : zero < K) where
         )
 
     -- what is read once the set is flipped, of any variant and with any buffers
-    module _ (v : FileVariant) (output work₂ : List ℕ) where
+    module _ (what : ℕ → List ℕ → Body → List ℕ) (exchange : Bool → List ℕ → List ℕ) (kept : IsReading K what exchange)
+        (v : FileVariant) (output work₂ : List ℕ) where
       abbrev f : File
       f = first .0
 
@@ -213,43 +214,44 @@ module _ (K : ℕ) (p : zero < K) where
       abbrev there : Bool
       there = ltb (v .0) (length (f .bodies))
 
-      before-is : read-call K file v output work₂ ≡ reading (f .samples) output work₂ (tested sized there (row f v))
-      unfolding read-call
+      before-is : read-as what K file v output work₂ ≡ reading (f .samples) output work₂ (tested sized there (row-as what f v))
       before-is =
           ap₂ (λ (N : ℕ) (out : Out (List ℕ)). reading N output work₂ out) (samples-are file f (first .1 .obeys) (first .1 .written))
-          (ap (λ (bs : List ℕ). read-out K bs v output work₂) (first .1 .written) ∙ read-of-file f v output work₂ (first .1 .obeys))
+          (ap (λ (bs : List ℕ). out-as what K bs v output work₂) (first .1 .written) ∙ read-of-file what exchange kept f v output work₂ (first .1 .obeys))
 
-      turned : (b : Bool) → there ≡ b → need b 11 0 (ok (row (flip-file (member set) f) v) []) ≡ need b 11 0 (ok (exchange-all (member set v) (row f v)) [])
-      turned true t =
-          ap (λ (r : List ℕ). ok r [])
-          (pgen-laws K p .flip-row (member set) f (first .1 .obeys) v (ltb-true (v .0) (length (f .bodies)) t))
+      turned : (b : Bool) → there ≡ b
+          → need b 11 0 (ok (row-as what (flip-file (member set) f) v) []) ≡ need b 11 0 (ok (exchange (member set v) (row-as what f v)) [])
+      turned true t = ap (λ (r : List ℕ). ok r []) (kept .flips (member set) f v (first .1 .obeys) (ltb-true (v .0) (length (f .bodies)) t))
       turned false t = refl
 
-      now-is : read-call K (after file set work) v output work₂
-          ≡ reading (f .samples) output work₂ (tested sized there (exchange-all (member set v) (row f v)))
-      unfolding read-call
+      now-is : read-as what K (after file set work) v output work₂
+          ≡ reading (f .samples) output work₂ (tested sized there (exchange (member set v) (row-as what f v)))
       now-is =
           let g : File = flip-file (member set) f in
           let h : Obeys K g = flip-obeys K (member set) f (first .1 .obeys) in
           let w : after file set work ≡ file-bytes K g = left-file file set work f z (first .1) in
           ap₂ (λ (N : ℕ) (out : Out (List ℕ)). reading N output work₂ out) (samples-are (after file set work) g h w)
-          (ap (λ (bs : List ℕ). read-out K bs v output work₂) w
-          ∙ read-of-file g v output work₂ h
-          ∙ ap (λ (M : ℕ). tested sized (ltb (v .0) M) (row g v)) (flip-count (member set) (file-variant 0) false (f .bodies))
+          (ap (λ (bs : List ℕ). out-as what K bs v output work₂) w
+          ∙ read-of-file what exchange kept g v output work₂ h
+          ∙ ap (λ (M : ℕ). tested sized (ltb (v .0) M) (row-as what g v)) (flip-count (member set) (file-variant 0) false (f .bodies))
           ∙ ap (need sized 10 0) (turned there refl))
 
-      -- DEMAND 3: "members read with categories 0 and 2 exchanged", whatever else a read gives as before
-      pub flip-call-reads : ReadsExchanged (member set v) (samples-of K file)
-          (read-call K file v output work₂) (read-call K (after file set work) v output work₂)
+      -- DEMAND 3: "members read with categories 0 and 2 exchanged", phases 1 and 2 too, whatever else a read gives as before
+      pub flip-call-reads : ReadsExchanged exchange (member set v) (samples-of K file)
+          (read-as what K file v output work₂) (read-as what K (after file set work) v output work₂)
       flip-call-reads =
-          rw (samples-are file f (first .1 .obeys) (first .1 .written), before-is, now-is)
-          (compared (member set v) sized there (f .samples) (row f v) output work₂ (λ t.
-          row-counted file f v y (first .1 .obeys) (first .1 .written) (ltb-true (v .0) (length (f .bodies)) t)))
+          let N-is : samples-of K file ≡ f .samples = samples-are file f (first .1 .obeys) (first .1 .written) in
+          let now : Read = read-as what K (after file set work) v output work₂ in
+          subst (λ (N : ℕ). ReadsExchanged exchange (member set v) N (read-as what K file v output work₂) now) (sym N-is)
+          (subst (λ (b : Read). ReadsExchanged exchange (member set v) (f .samples) b now) (sym before-is)
+          (subst (ReadsExchanged exchange (member set v) (f .samples) _) (sym now-is)
+          (compared exchange (kept .as-long) (member set v) sized there (f .samples) (row-as what f v) output work₂ (λ t.
+          row-counted what exchange kept file f v y (first .1 .obeys) (first .1 .written) (ltb-true (v .0) (length (f .bodies)) t)))))
 
       -- "all others as before"
-      pub flip-call-others : member set v ≡ false → read-call K (after file set work) v output work₂ ≡ read-call K file v output work₂
+      pub flip-call-others : member set v ≡ false → read-as what K (after file set work) v output work₂ ≡ read-as what K file v output work₂
       flip-call-others n =
           now-is
           ∙ ap (λ (r : List ℕ). reading (f .samples) output work₂ (tested sized there r))
-          (ap (λ (b : Bool). exchange-all b (row f v)) n ∙ exchange-all-none (row f v))
+          (ap (λ (b : Bool). exchange b (row-as what f v)) n ∙ kept .none (row-as what f v))
           ∙ sym before-is

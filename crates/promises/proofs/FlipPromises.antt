@@ -9,7 +9,8 @@ use lib.Dec.{lit<}
 use Rattle.format.specs.declared.FileVariant.{FileVariant}
 use Rattle.format.specs.Base.{Bytes, Out, ok, refused, map-out}
 use Rattle.format.specs.Limits.{variants-to-a-block}
-use Rattle.format.specs.Category.{exchange-all, just-one}
+use Rattle.format.specs.Category.{just-one}
+use Rattle.format.specs.Body.{exchange-reading}
 use Rattle.format.specs.Container.{Container}
 use Rattle.format.specs.Layout.{Layout}
 use Rattle.format.specs.File.{File, layout-of-file, file-bytes, Obeys, read-file, read-row, flip-file, pgen-file, flip-bytes}
@@ -68,9 +69,9 @@ module _ (file set work : List ℕ) (y : Bytes file) (q : refusal file set work 
   pub call-layout : SameLayout K (layout-of-file (done .whole)) (layout-of-file (flip-file (member set) (done .whole)))
   call-layout = flip-layout K (member set) (done .whole)
 
-  -- "members read with categories 0 and 2 exchanged, all others as before, even where their stored differences lean on a flipped one"
+  -- phases too: "members read with categories 0 and 2 exchanged, all others as before, even where their stored differences lean on a flipped one"
   pub call-reads : (v : FileVariant) → v .0 < length (done .whole .bodies)
-      → read-row K (after file set work) v ≡ map-out (exchange-all (member set v)) (read-row K file v)
+      → read-row K (after file set work) v ≡ map-out (exchange-reading (member set v)) (read-row K file v)
   call-reads v l = members-exchanged files laws y done v l
 
   module _ (second work₂ : List ℕ) (y₂ : Bytes (after file set work)) (q₂ : refusal (after file set work) second work₂ ≡ 0) where

@@ -23,6 +23,8 @@ use Rattle.format.proofs.FileLaws.{file-exactly}
 use Rattle.format.proofs.FlipLaws.{SameLayout, flip-layout, flip-obeys, flip-of-file}
 use Rattle.head_index.proofs.StartLaws.{records-end}
 use Rattle.head_records.specs.Extent.{record-size}
+use Rattle.flip_phase.specs.AllRecords.{phases-flipped}
+use Rattle.flip_phase.proofs.KeepLaws.{phases-keep}
 use Rattle.flip_file.specs.Passes.{bodies-flipped, all-bodies, type-put, touched, type-flipped, types-flipped, all-types}
 use Rattle.flip_file.proofs.FileLaw.{in-place-is-flip}
 use Rattle.promises.proofs.FlipPromises.{done}
@@ -32,7 +34,7 @@ pub record Outside (K : ℕ) (l : Layout) (place : ℕ) : Type 0 where
   pub no-type : unblocked (l .mode) ≡ false → (v : FileVariant) → v .0 < length (l .bodies) → place ≡ type-place K (fixed-of l) v → ⊥
   pub no-body : (v : FileVariant) → v .0 < length (l .bodies) → record-start K l v ≤ place → place < record-start K l (next-variant v) → ⊥
 
--- ---- the two passes in place, over any bytes
+-- ---- the two passes in place after that over the phases, over any bytes
 
 -- bytes that change from `start` on, where what changes fits, keep those before
 before : (start end place : ℕ) (bs after new : List ℕ) → start ≤ end → place < start → getD new place 0 ≡ getD (take start bs ++ after) place 0
@@ -125,8 +127,9 @@ module _ (K : ℕ) (member : FileVariant → Bool) (bs : List ℕ) (g : File) (p
     by-passes before-records =
         let f : Fixed = fixed-of l in
         ap (λ (x : List ℕ). getD x place 0) (sym (in-place-is-flip K member bs g p y e))
-        ∙ types (unblocked (f .mode)) refl (all-bodies K f member bs)
-        ∙ bodies-keep K f member place (f .variants) (file-variant 0) (first-record K f) false bs before-records
+        ∙ types (unblocked (f .mode)) refl (all-bodies K f member (phases-flipped K member bs))
+        ∙ bodies-keep K f member place (f .variants) (file-variant 0) (first-record K f) false (phases-flipped K member bs) before-records
+        ∙ phases-keep K member bs g p y e place before-records
       where
         types : (t : Bool) → unblocked (l .mode) ≡ t → (x : List ℕ)
             → getD (pick t x (all-types K (fixed-of l) member x)) place 0 ≡ getD x place 0

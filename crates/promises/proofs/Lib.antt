@@ -8,12 +8,16 @@ pub mod CallPromises
 pub mod SameBytes
 pub mod WrittenAgain
 pub mod CheckedRows
+pub mod PhasedSteps
+pub mod PhasedRowsAreReads
 pub mod Orders
 pub mod ReadExactly
+pub mod Readings
 pub mod FlipExactly
 pub mod FlipCalls
 pub mod WorkLeft
 pub mod WriteExactly
+pub mod PhasedWriteExactly
 pub mod PlaceRules
 pub mod RecordPlaces
 pub mod HeaderPlaces
@@ -21,5 +25,6 @@ pub mod CallPlaces
 pub mod WritePlaces
 pub mod Programs
 pub mod DemandLaws
+pub mod PhasedDemands
 pub mod Demands
 pub mod DemandsHold

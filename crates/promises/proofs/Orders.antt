@@ -4,7 +4,7 @@
 -- definitions. Two rules that changed places in a definition would pass every other proof. Document 01's own examples are format's list `examples`.
 -- Assumes nothing.
 use mathlib.Core.Path.{_≡_, refl}
-use Prim.Native.Nat.{ℕ}
+use Prim.Native.Nat.{ℕ, _+_}
 use mathlib.Core.Bool.{not}
 use mathlib.Core.List.{List, [], _∷_, _++_, map}
 use lib.ListN.{length, take, set, replicate}
@@ -23,9 +23,11 @@ use Rattle.format.specs.Layout.{fixed-bytes, sum, block-count, cut, block-bytes
 use Rattle.format.specs.Layout.{arrays-size, header-bytes, block-starts, joined, in-parts, layout-bytes, record-start}
 use Rattle.format.specs.Header.{read-fixed, need-fixed, read-block, read-blocks, read-blocked, unblocked-arrays, read-arrays, block-place, type-place}
 use Rattle.format.specs.Header.{need-types, read-after-fixed, read-header, need-offsets, split-bodies, read-bodies, read-data, read-layout}
-use Rattle.format.specs.File.{file-bytes, read-records, read-all, read-file, read-over, read-variant, flip-bytes}
-use Rattle.format.specs.Writer.{differences, kind-track, need-categories, write-record}
-use Rattle.format.specs.Reply.{refusal-of, header-call, check-call, read-call, lookup-call, view-call, write-call, flip-call}
+use Rattle.format.specs.File.{file-bytes, read-records, read-all, read-file, over-as, variant-as, flip-bytes}
+use Rattle.format.specs.Phase.{heterozygous-count, some-unphased, phase-bits, phase-track-bytes, ones, phases-told, read-phase-track, spread, gathered}
+use Rattle.format.specs.Writer.{differences, kind-track, need-categories, write-record, need-phases, write-phased}
+use Rattle.format.specs.Reply.{refusal-of, header-call, check-call, read-call, lookup-call, view-call, write-call, write-phased-call}
+use Rattle.format.specs.Reply.{flip-call}
 use Rattle.format.specs.Examples.{A, one-record, number-and-place, Example, _gives_}
 
 -- number and place: of a header check; of a whole-file check with a work area of so many bytes; of a read of variant v into so many bytes, with a work
@@ -51,6 +53,10 @@ flip file bits = number-and-place (flip-call variants-to-a-block file bits (repl
 abbrev write : List ℕ → ℕ → ℕ → List ℕ → ℕ → List ℕ
 write categories kind code lent room = number-and-place (write-call categories kind code lent (replicate room 7) .verdict .refusal)
 
+abbrev write-both : List ℕ → List ℕ → ℕ → ℕ → List ℕ → ℕ → List ℕ
+write-both categories phases kind code lent room =
+    number-and-place (write-phased-call categories phases kind code lent (replicate room 7) .verdict .refusal)
+
 -- a list of a record that ends at `end`, of N samples, none of them with value 0
 abbrev list-reply : ℕ → ℕ → List ℕ → List ℕ
 list-reply N end bs =
@@ -63,6 +69,10 @@ two-groups size head = (65 ∷ 0 ∷ head ∷ size ∷ []) ++ (replicate 16 0x55
 -- a file of one variant and five samples, of a kind: its record starts at byte 22
 abbrev of-kind : ℕ → List ℕ → List ℕ
 of-kind kind body = set (set (one-record body) 20 kind) 21 (length body)
+
+-- the same of a phased record, with 8-bit types
+abbrev of-phased : ℕ → List ℕ → List ℕ
+of-phased kind body = set (of-kind (kind + 16) body) 11 0x44
 
 -- a file of mode 0x02, of one variant and five samples, with a form and the bytes after it
 abbrev unblocked-file : ℕ → List ℕ → List ℕ
@@ -145,6 +155,25 @@ orders =
     ∷ (read (of-kind 4 (1 ∷ 2 ∷ 0 ∷ 9 ∷ [])) 0 5 gives (17 ∷ 24 ∷ []))
     ∷ (read (of-kind 4 (1 ∷ 2 ∷ 3 ∷ 9 ∷ [])) 0 5 gives (13 ∷ 25 ∷ []))
     ∷ (read (of-kind 4 (0 ∷ 9 ∷ [])) 0 5 gives (13 ∷ 23 ∷ []))
+    -- a phase track: the main track (18); its first part (12, 18), then its phase bits (12, 18); then bytes left (13)
+    ∷ (read (of-phased 0 (0x55 ∷ 0x05 ∷ [])) 0 5 gives (18 ∷ 23 ∷ []))
+    ∷ (read (of-phased 0 (0x55 ∷ 0x01 ∷ [])) 0 5 gives (12 ∷ 24 ∷ []))
+    ∷ (read (of-phased 0 (0x55 ∷ 0x01 ∷ 0x02 ∷ [])) 0 5 gives (18 ∷ 24 ∷ []))
+    ∷ (read (of-phased 0 (0x55 ∷ 0x01 ∷ 0x7f ∷ [])) 0 5 gives (18 ∷ 24 ∷ []))
+    ∷ (read (of-phased 0 (0x55 ∷ 0x01 ∷ 0x00 ∷ [])) 0 5 gives (12 ∷ 25 ∷ []))
+    ∷ (read (of-phased 0 (0x55 ∷ 0x01 ∷ 0x00 ∷ 0x20 ∷ 9 ∷ [])) 0 5 gives (18 ∷ 25 ∷ []))
+    ∷ (read (of-phased 0 (0x55 ∷ 0x01 ∷ 0x00 ∷ 0x1f ∷ 9 ∷ [])) 0 5 gives (13 ∷ 26 ∷ []))
+    ∷ (read (of-phased 0 (0x55 ∷ 0x01 ∷ 0x01 ∷ 9 ∷ [])) 0 5 gives (13 ∷ 25 ∷ []))
+    ∷ (read (of-phased 0 (0x55 ∷ 0x01 ∷ 0x3f ∷ 0x1f ∷ [])) 0 5 gives (0 ∷ 0 ∷ []))
+    -- the writer of phased records: 19, 10 (phases), 20 (categories, then anchor), 22, 10 (output)
+    ∷ (write-both (4 ∷ []) [] 5 0 [] 0 gives (19 ∷ 0 ∷ []))
+    ∷ (write-both (4 ∷ []) [] 0 0 [] 0 gives (10 ∷ 0 ∷ []))
+    ∷ (write-both (1 ∷ 4 ∷ []) (3 ∷ 0 ∷ []) 0 0 [] 0 gives (20 ∷ 1 ∷ []))
+    ∷ (write-both (1 ∷ 1 ∷ []) (3 ∷ 0 ∷ []) 2 0 (0 ∷ 9 ∷ []) 0 gives (20 ∷ 1 ∷ []))
+    ∷ (write-both (1 ∷ 0 ∷ []) (2 ∷ 1 ∷ []) 0 0 [] 0 gives (22 ∷ 1 ∷ []))
+    ∷ (write-both (1 ∷ 0 ∷ []) (3 ∷ 1 ∷ []) 0 0 [] 0 gives (22 ∷ 0 ∷ []))
+    ∷ (write-both (1 ∷ 0 ∷ []) (2 ∷ 0 ∷ []) 0 0 [] 2 gives (10 ∷ 0 ∷ []))
+    ∷ (write-both (1 ∷ 0 ∷ []) (2 ∷ 0 ∷ []) 0 0 [] 3 gives (0 ∷ 0 ∷ []))
     -- the writer: 4, 19, 10 (anchor), 20 (categories, then anchor), 10 (output)
     ∷ (write (replicate 65537 4) 5 0 [] 0 gives (4 ∷ 0 ∷ []))
     ∷ (write [] 2 0 (9 ∷ []) 0 gives (4 ∷ 0 ∷ []))
@@ -180,7 +209,8 @@ orders =
 
 pub orders-hold : map (λ (e : Example). e .what) orders ≡ map (λ (e : Example). e .is) orders
 unfolding header-call check-call read-call lookup-call view-call write-call flip-call write-record need-categories kind-track differences flip-bytes
-    read-variant read-over read-file
+    variant-as over-as read-file write-phased-call write-phased need-phases gathered some-unphased heterozygous-count phase-bits phase-track-bytes
+    read-phase-track ones phases-told spread
     read-all read-records file-bytes read-layout read-data read-bodies split-bodies need-offsets read-header read-after-fixed need-types type-place block-place
     read-arrays unblocked-arrays
     read-blocked read-blocks read-block need-fixed read-fixed record-start layout-bytes in-parts header-bytes joined block-starts arrays-size blocked-size

@@ -10,50 +10,53 @@ use lib.Dec.{ltb}
 use native.Mathlib.Omega.{arith}
 use borrow.Author.Tests.{ltb-true, leb-true, lt-ltb, le-leb}
 use Rattle.format.specs.declared.FileVariant.{FileVariant}
-use Rattle.format.specs.Base.{pick, Bytes, Out, ok, bind, map-out}
+use Rattle.format.specs.Base.{pick, Below, Bytes, Out, ok, bind, map-out}
 use Rattle.format.specs.Limits.{most-samples}
-use Rattle.format.specs.Body.{kind-of, Body, body-type, body-bytes, BodyFits, read-body, body-categories}
-use Rattle.format.specs.Track.{leans}
+use Rattle.format.specs.Body.{kind-of, type-phased, Body, body-bytes, BodyFits, read-body, body-categories, body-phases}
+use Rattle.format.specs.Track.{leans, track-kind}
+use Rattle.format.specs.Phase.{has-phases}
 use Rattle.format.specs.Variant.{next-variant, anchor}
 use Rattle.format.specs.Layout.{Layout, layout-bytes, record-start, LayoutObeys}
 use Rattle.format.specs.Header.{read-layout}
-use Rattle.format.specs.File.{type-of, variant-leans, read-over, read-variant}
-use Rattle.format.specs.Reply.{refusal-of, given, samples-of, holds-row, read-out, read-call, lookup-out, lookup-call}
+use Rattle.format.specs.File.{type-of, variant-leans, read-over, over-as, variant-as}
+use Rattle.format.specs.Reply.{refusal-of, given, samples-of, holds-row, out-as, read-as, lookup-out, lookup-call}
 use Rattle.format.proofs.Rules.{Holds, by-need, by-bind, by-map, weaken, both, never-both}
 use Rattle.format.proofs.OffsetsLaws.{from-1-to-most}
 use Rattle.format.proofs.AnchorLaws.{IsAnchor, anchor-is}
 use Rattle.format.proofs.TrackLaws.{leans-track}
 use Rattle.format.proofs.RowLaws.{IsRow, body-row}
 use Rattle.format.proofs.BodyLaws.{IsBody, body-as-written, record-exactly}
+use Rattle.format.proofs.PhaseLaws.{phases-over-length, phases-over-small}
 use Rattle.format.proofs.HeaderLaws.{layout-read-back, IsLayout, layout-as-written}
 use Rattle.format.proofs.FileLaws.{bodies-are-bytes, one-type-each}
 use Rattle.format.proofs.CallRefusals.{stored-bytes, read-call-numbers, read-refusals, lookup-refusals}
 use Rattle.promises.proofs.CallLaws.{accepted}
 
--- ---- what a variant reads as, of a file whose other records may be wrong
+-- ---- what a variant reads as, of a file whose other records may be wrong; `what` is read of it, its categories or its phases
 
--- The record of variant v, over an anchor's categories, obeys and stands for `row`: it is the bytes of a body of its type's kind that fits.
-pub record RecordReads (l : Layout) (lent : List ℕ) (v : FileVariant) (row : List ℕ) : Type 0 where
+-- The record of variant v, over an anchor's categories, obeys and stands for `row`: it is the bytes of a body of its type that fits.
+pub record RecordReads (what : ℕ → List ℕ → Body → List ℕ) (l : Layout) (lent : List ℕ) (v : FileVariant) (row : List ℕ) : Type 0 where
   pub body : Body
-  pub typed : body-type body ≡ kind-of (type-of l v)
+  pub typed : track-kind (body .main) ≡ kind-of (type-of l v)
+  pub phased : has-phases (body .phases) ≡ type-phased (type-of l v)
   pub fits : BodyFits (l .samples) lent body
   pub written : getD (l .bodies) (v .0) [] ≡ body-bytes (l .samples) body
-  pub stands-for : row ≡ body-categories (l .samples) lent body
+  pub stands-for : row ≡ what (l .samples) lent body
 
 -- 01, Replies: "a read or lookup checks only its variant's, and an anchor is checked before the record that leans on it"
 -- A variant that leans does so on the row of its anchor's record, any other on nothing.
-abbrev pub VariantReads : ℕ → Layout → FileVariant → List ℕ → Type 0
-VariantReads K l v row =
+abbrev pub VariantReads : (ℕ → List ℕ → Body → List ℕ) → ℕ → Layout → FileVariant → List ℕ → Type 0
+VariantReads what K l v row =
     pick (variant-leans l v)
-    ((lent : List ℕ) × RecordReads l [] (anchor K (l .types) v) lent × RecordReads l lent v row)
-    (RecordReads l [] v row)
+    ((lent : List ℕ) × RecordReads body-categories l [] (anchor K (l .types) v) lent × RecordReads what l lent v row)
+    (RecordReads what l [] v row)
 
 -- The file has a header that obeys, the variant is below M, and its record and its anchor's obey: it reads as `row`.
-pub record Readable (K : ℕ) (file : List ℕ) (v : FileVariant) (l : Layout) (row : List ℕ) : Type 0 where
+pub record Readable (what : ℕ → List ℕ → Body → List ℕ) (K : ℕ) (file : List ℕ) (v : FileVariant) (l : Layout) (row : List ℕ) : Type 0 where
   pub obeys : LayoutObeys K l
   pub written : file ≡ layout-bytes K l
   pub below : v .0 < length (l .bodies)
-  pub reads : VariantReads K l v row
+  pub reads : VariantReads what K l v row
 
 -- ---- the format's own reading
 
@@ -65,101 +68,140 @@ module _ (K : ℕ) (file : List ℕ) (p : zero < K) (y : Bytes file) (l : Layout
   body-bytes-are v = stored-bytes (v .0) (l .bodies) (bodies-are-bytes K file l y w)
 
   -- one record
-  over-as-written : (lent : List ℕ) (v : FileVariant)
-      → Holds (λ (row : List ℕ) (left : List ℕ). RecordReads l lent v row) (read-over K l lent v)
-  unfolding read-over
-  over-as-written lent v =
-      by-map (IsBody (l .samples) lent (type-of l v) (getD (l .bodies) (v .0) [])) (λ (row left : List ℕ). RecordReads l lent v row)
-      (read-body (record-start K l (next-variant v)) (l .samples) lent (type-of l v) (getD (l .bodies) (v .0) [])) (body-categories (l .samples) lent)
+  over-as-written : (what : ℕ → List ℕ → Body → List ℕ) (lent : List ℕ) (v : FileVariant)
+      → Holds (λ (row : List ℕ) (left : List ℕ). RecordReads what l lent v row) (over-as what K l lent v)
+  unfolding over-as
+  over-as-written what lent v =
+      by-map (IsBody (l .samples) lent (type-of l v) (getD (l .bodies) (v .0) [])) (λ (row left : List ℕ). RecordReads what l lent v row)
+      (read-body (record-start K l (next-variant v)) (l .samples) lent (type-of l v) (getD (l .bodies) (v .0) [])) (what (l .samples) lent)
       (body-as-written (record-start K l (next-variant v)) (l .samples) lent (type-of l v) (getD (l .bodies) (v .0) []) (body-bytes-are v)) (λ body left i.
-      record { body = body; typed = i .kind; fits = i .fits; written = i .written; stands-for = refl })
+      record { body = body; typed = i .kind; phased = i .phased; fits = i .fits; written = i .written; stands-for = refl })
 
-  pub over-read-back : (lent : List ℕ) (v : FileVariant) (row : List ℕ) → RecordReads l lent v row → read-over K l lent v ≡ ok row []
-  unfolding read-over
-  over-read-back lent v row r =
-      ap (map-out (body-categories (l .samples) lent))
-      (record-exactly (record-start K l (next-variant v)) (l .samples) lent (type-of l v) (getD (l .bodies) (v .0) []) (r .body) few (body-bytes-are v) .1
-      (r .typed, r .fits, r .written))
-      ∙ ap (λ (x : List ℕ). ok x []) (sym (r .stands-for))
+  -- its body is the one that is read
+  pub body-is-read : (what : ℕ → List ℕ → Body → List ℕ) (lent : List ℕ) (v : FileVariant) (row : List ℕ) (r : RecordReads what l lent v row)
+      → read-body (record-start K l (next-variant v)) (l .samples) lent (type-of l v) (getD (l .bodies) (v .0) []) ≡ ok (r .body) []
+  body-is-read what lent v row r =
+      record-exactly (record-start K l (next-variant v)) (l .samples) lent (type-of l v) (getD (l .bodies) (v .0) []) (r .body) few (body-bytes-are v) .1
+      (r .typed, r .phased, r .fits, r .written)
+
+  pub over-read-back : (what : ℕ → List ℕ → Body → List ℕ) (lent : List ℕ) (v : FileVariant) (row : List ℕ) → RecordReads what l lent v row
+      → over-as what K l lent v ≡ ok row []
+  unfolding over-as
+  over-read-back what lent v row r =
+      ap (map-out (what (l .samples) lent)) (body-is-read what lent v row r) ∙ ap (λ (x : List ℕ). ok x []) (sym (r .stands-for))
 
   -- a variant and its anchor
-  pub variant-as-written : (v : FileVariant) → Holds (λ (row left : List ℕ). VariantReads K l v row) (read-variant K l v)
-  unfolding read-variant
-  variant-as-written v = go (variant-leans l v)
+  pub variant-as-written : (what : ℕ → List ℕ → Body → List ℕ) (v : FileVariant)
+      → Holds (λ (row left : List ℕ). VariantReads what K l v row) (variant-as what K l v)
+  unfolding variant-as
+  variant-as-written what v = go (variant-leans l v)
     where
       go : (b : Bool)
           → Holds
           (λ (row left : List ℕ).
-          pick b ((lent : List ℕ) × RecordReads l [] (anchor K (l .types) v) lent × RecordReads l lent v row) (RecordReads l [] v row))
-          (pick b (bind (read-over K l [] (anchor K (l .types) v)) (λ row left. read-over K l row v)) (read-over K l [] v))
+          pick b ((lent : List ℕ) × RecordReads body-categories l [] (anchor K (l .types) v) lent × RecordReads what l lent v row)
+          (RecordReads what l [] v row))
+          (pick b (bind (read-over K l [] (anchor K (l .types) v)) (λ row left. over-as what K l row v)) (over-as what K l [] v))
       go true =
-          by-bind (λ (lent left : List ℕ). RecordReads l [] (anchor K (l .types) v) lent)
-          (λ (row left : List ℕ). (lent : List ℕ) × RecordReads l [] (anchor K (l .types) v) lent × RecordReads l lent v row)
+          by-bind (λ (lent left : List ℕ). RecordReads body-categories l [] (anchor K (l .types) v) lent)
+          (λ (row left : List ℕ). (lent : List ℕ) × RecordReads body-categories l [] (anchor K (l .types) v) lent × RecordReads what l lent v row)
           (read-over K l [] (anchor K (l .types) v)) _
-          (over-as-written [] (anchor K (l .types) v)) (λ lent left r.
-          weaken (λ (row left : List ℕ). RecordReads l lent v row) _ (read-over K l lent v) (λ row left q. (lent, r, q)) (over-as-written lent v))
-      go false = over-as-written [] v
+          (over-as-written body-categories [] (anchor K (l .types) v)) (λ lent left r.
+          weaken (λ (row left : List ℕ). RecordReads what l lent v row) _ (over-as what K l lent v) (λ row left q. (lent, r, q))
+          (over-as-written what lent v))
+      go false = over-as-written what [] v
 
-  variant-read-back : (v : FileVariant) (row : List ℕ) → VariantReads K l v row → read-variant K l v ≡ ok row []
-  unfolding read-variant
-  variant-read-back v row r = go (variant-leans l v) r
+  variant-read-back : (what : ℕ → List ℕ → Body → List ℕ) (v : FileVariant) (row : List ℕ) → VariantReads what K l v row → variant-as what K l v ≡ ok row []
+  unfolding variant-as
+  variant-read-back what v row r = go (variant-leans l v) r
     where
-      go : (b : Bool) → pick b ((lent : List ℕ) × RecordReads l [] (anchor K (l .types) v) lent × RecordReads l lent v row) (RecordReads l [] v row)
-          → pick b (bind (read-over K l [] (anchor K (l .types) v)) (λ row left. read-over K l row v)) (read-over K l [] v) ≡ ok row []
+      go : (b : Bool)
+          → pick b ((lent : List ℕ) × RecordReads body-categories l [] (anchor K (l .types) v) lent × RecordReads what l lent v row)
+          (RecordReads what l [] v row)
+          → pick b (bind (read-over K l [] (anchor K (l .types) v)) (λ row left. over-as what K l row v)) (over-as what K l [] v) ≡ ok row []
       go true q =
-          ap (λ (out : Out (List ℕ)). bind out (λ row left. read-over K l row v)) (over-read-back [] (anchor K (l .types) v) (q .0) (q .1))
-          ∙ over-read-back (q .0) v row (q .2)
-      go false q = over-read-back [] v row q
+          ap (λ (out : Out (List ℕ)). bind out (λ row left. over-as what K l row v))
+          (over-read-back body-categories [] (anchor K (l .types) v) (q .0) (q .1))
+          ∙ over-read-back what (q .0) v row (q .2)
+      go false q = over-read-back what [] v row q
 
--- ---- what is read is a row: N categories, each 0 to 3
+-- ---- what is read is a row: N categories, each 0 to 3; or as many phases, each 0 to 2
 
-record-row : (l : Layout) (lent : List ℕ) (v : FileVariant) (row : List ℕ) → RecordReads l lent v row
+record-row : (l : Layout) (lent : List ℕ) (v : FileVariant) (row : List ℕ) → RecordReads body-categories l lent v row
     → (variant-leans l v ≡ true → IsRow (l .samples) lent) → IsRow (l .samples) row
 record-row l lent v row r i =
     subst (IsRow (l .samples)) (sym (r .stands-for))
     (body-row (l .samples) lent (r .body) (r .fits) (λ t. i (sym (ap leans (r .typed)) ∙ leans-track (r .body .main) ∙ t)))
 
-pub variant-row : (K : ℕ) (l : Layout) (v : FileVariant) (row : List ℕ) → zero < K → LayoutObeys K l → v .0 < length (l .bodies) → VariantReads K l v row
-    → IsRow (l .samples) row
-variant-row K l v row p h below r = go (variant-leans l v) refl r
+-- a variant's record, over the row of its anchor, if it leans
+pub record Leant (what : ℕ → List ℕ → Body → List ℕ) (l : Layout) (v : FileVariant) (row : List ℕ) : Type 0 where
+  pub lent : List ℕ
+  pub lent-row : variant-leans l v ≡ true → IsRow (l .samples) lent
+  pub reads : RecordReads what l lent v row
+
+pub variant-leant : (what : ℕ → List ℕ → Body → List ℕ) (K : ℕ) (l : Layout) (v : FileVariant) (row : List ℕ) → zero < K → LayoutObeys K l
+    → v .0 < length (l .bodies) → VariantReads what K l v row → Leant what l v row
+variant-leant what K l v row p h below r = go (variant-leans l v) refl r
   where
     go : (b : Bool) → variant-leans l v ≡ b
-        → pick b ((lent : List ℕ) × RecordReads l [] (anchor K (l .types) v) lent × RecordReads l lent v row) (RecordReads l [] v row)
-        → IsRow (l .samples) row
+        → pick b ((lent : List ℕ) × RecordReads body-categories l [] (anchor K (l .types) v) lent × RecordReads what l lent v row)
+        (RecordReads what l [] v row)
+        → Leant what l v row
     go true t q =
         let a : IsAnchor K (l .types) v (anchor K (l .types) v)
         = anchor-is K (l .types) p (h .types) v (omega (arith, one-type-each K l h)) t in
-        record-row l (q .0) v row (q .2) (λ u. record-row l [] (anchor K (l .types) v) (q .0) (q .1) (λ s. never-both s (a .stands)))
-    go false t q = record-row l [] v row q (λ s. never-both s t)
+        record {
+          lent = q .0;
+          lent-row = λ u. record-row l [] (anchor K (l .types) v) (q .0) (q .1) (λ s. never-both s (a .stands));
+          reads = q .2;
+        }
+    go false t q = record { lent = []; lent-row = λ s. never-both s t; reads = q }
+
+pub variant-row : (K : ℕ) (l : Layout) (v : FileVariant) (row : List ℕ) → zero < K → LayoutObeys K l → v .0 < length (l .bodies)
+    → VariantReads body-categories K l v row → IsRow (l .samples) row
+variant-row K l v row p h below r =
+    let a : Leant body-categories l v row = variant-leant body-categories K l v row p h below r in
+    record-row l (a .lent) v row (a .reads) (a .lent-row)
+
+pub variant-phases-row : (K : ℕ) (l : Layout) (v : FileVariant) (row : List ℕ) → zero < K → LayoutObeys K l → v .0 < length (l .bodies)
+    → VariantReads body-phases K l v row → (length row ≡ l .samples) × Below 3 row
+variant-phases-row K l v row p h below r =
+    let a : Leant body-phases l v row = variant-leant body-phases K l v row p h below r in
+    let b : Body = a .reads .body in
+    let whole : IsRow (l .samples) (body-categories (l .samples) (a .lent) b)
+    = body-row (l .samples) (a .lent) b (a .reads .fits) (λ t. a .lent-row (sym (ap leans (a .reads .typed)) ∙ leans-track (b .main) ∙ t)) in (
+      ap length (a .reads .stands-for) ∙ phases-over-length _ (b .phases) ∙ whole .0,
+      subst (Below 3) (sym (a .reads .stands-for)) (phases-over-small _ (b .phases) (a .reads .fits .1)),
+    )
 
 -- ---- the calls
 
-module _ (K : ℕ) (file : List ℕ) (v : FileVariant) where
+module _ (what : ℕ → List ℕ → Body → List ℕ) (K : ℕ) (file : List ℕ) (v : FileVariant) where
   -- a header that obeys and a variant that is there are found so
-  module _ (p : zero < K) (l : Layout) (row : List ℕ) (r : Readable K file v l row) where
+  module _ (p : zero < K) (l : Layout) (row : List ℕ) (r : Readable what K file v l row) where
     header-found : read-layout K file ≡ ok l []
     header-found = ap (read-layout K) (r .written) ∙ layout-read-back K l p (r .obeys)
 
-    row-found : Bytes file → read-variant K l v ≡ ok row []
-    row-found y = variant-read-back K file p y l (r .obeys) (r .written) v row (r .reads)
+    row-found : Bytes file → variant-as what K l v ≡ ok row []
+    row-found y = variant-read-back K file p y l (r .obeys) (r .written) what v row (r .reads)
 
     variant-found : ltb (v .0) (length (l .bodies)) ≡ true
     variant-found = lt-ltb (v .0) (length (l .bodies)) (r .below)
 
   module _ (p : zero < K) (y : Bytes file) (l : Layout) (left : List ℕ) (w : IsLayout K file l left) where
-    found : (Q : List ℕ → List ℕ → Type 0) → ((row left : List ℕ) → Readable K file v l row → Q row left) → ltb (v .0) (length (l .bodies)) ≡ true
-        → Holds Q (read-variant K l v)
+    found : (Q : List ℕ → List ℕ → Type 0) → ((row left : List ℕ) → Readable what K file v l row → Q row left)
+        → ltb (v .0) (length (l .bodies)) ≡ true → Holds Q (variant-as what K l v)
     found Q k t =
-        weaken (λ (row left : List ℕ). VariantReads K l v row) Q (read-variant K l v) (λ row left r.
+        weaken (λ (row left : List ℕ). VariantReads what K l v row) Q (variant-as what K l v) (λ row left r.
         k row left (record { obeys = w .obeys; written = w .written; below = ltb-true (v .0) (length (l .bodies)) t; reads = r }))
-        (variant-as-written K file p y l (w .obeys) (w .written) v)
+        (variant-as-written K file p y l (w .obeys) (w .written) what v)
 
   module _ (output work : List ℕ) where
     -- what a read is accepted for
     abbrev pub MayRead : List ℕ → Type 0
-    MayRead row = (l : Layout) × Readable K file v l row × (l .samples ≤ length output) × (l .samples ≤ length work)
+    MayRead row = (l : Layout) × Readable what K file v l row × (l .samples ≤ length output) × (l .samples ≤ length work)
 
-    may-read : zero < K → Bytes file → Holds (λ (row left : List ℕ). MayRead row) (read-out K file v output work)
+    may-read : zero < K → Bytes file → Holds (λ (row left : List ℕ). MayRead row) (out-as what K file v output work)
     may-read p y =
         by-bind (IsLayout K file) (λ (row left : List ℕ). MayRead row) (read-layout K file) _ (layout-as-written K file p y) (λ l left w.
         by-need (λ (row left : List ℕ). MayRead row) (holds-row output l && holds-row work l) 10 0 _ (λ t.
@@ -168,7 +210,7 @@ module _ (K : ℕ) (file : List ℕ) (v : FileVariant) where
         (found p y l left w (λ (row left : List ℕ). MayRead row) (λ row left r.
         (l, r, leb-true (l .samples) (length output) (sizes .0), leb-true (l .samples) (length work) (sizes .1))))))
 
-    read-passes : zero < K → Bytes file → (row : List ℕ) → MayRead row → read-out K file v output work ≡ ok row []
+    read-passes : zero < K → Bytes file → (row : List ℕ) → MayRead row → out-as what K file v output work ≡ ok row []
     read-passes p y row m =
         let l : Layout = m .0 in
         simp (
@@ -179,64 +221,62 @@ module _ (K : ℕ) (file : List ℕ) (v : FileVariant) where
           row-found p l row (m .1) y,
         )
 
-    -- DEMAND 2: a read is accepted exactly when the header, the variant's record and its anchor's obey, the variant is below M, and output and work
-    -- area have N bytes
+    -- DEMAND 2: a read, of categories or of phases, is accepted exactly when the header, the variant's record and its anchor's obey, the variant is below
+    -- M, and output and work area have N bytes
     pub read-exactly : zero < K → Bytes file
-        → (read-call K file v output work .verdict .refusal .number ≡ 0) ↔ ((row : List ℕ) × MayRead row)
-    unfolding read-call
+        → (read-as what K file v output work .verdict .refusal .number ≡ 0) ↔ ((row : List ℕ) × MayRead row)
     read-exactly p y = (
       λ e.
-          let a = accepted read-call-numbers refl (read-out K file v output work) (read-refusals K file v output work p y) e in
+          let a = accepted read-call-numbers refl (out-as what K file v output work) (read-refusals what K file v output work p y) e in
           (a .0, subst (Holds (λ (row left : List ℕ). MayRead row)) (a .2) (may-read p y)),
       λ h. ap (λ (out : Out (List ℕ)). refusal-of out .number) (read-passes p y (h .0) (h .1)),
     )
 
     -- and then it gives that row
     pub read-gives : zero < K → Bytes file → (row : List ℕ) (m : MayRead row)
-        → read-call K file v output work .output ≡ row ++ drop (m .0 .samples) output
-    unfolding read-call
+        → read-as what K file v output work .output ≡ row ++ drop (m .0 .samples) output
     read-gives p y row m =
         ap (given (λ (x : List ℕ). x ++ drop (samples-of K file) output) output) (read-passes p y row m)
         ∙ ap (λ (out : Out Layout). row ++ drop (given (λ (l : Layout). l .samples) 0 out) output) (header-found p (m .0) row (m .1))
 
-  module _ (sample : ℕ) (work : List ℕ) where
-    -- what a lookup is accepted for
-    abbrev pub MayLookUp : List ℕ → Type 0
-    MayLookUp row = (l : Layout) × Readable K file v l row × (sample < l .samples) × (l .samples ≤ length work)
+module _ (K : ℕ) (file : List ℕ) (v : FileVariant) (sample : ℕ) (work : List ℕ) where
+  -- what a lookup is accepted for
+  abbrev pub MayLookUp : List ℕ → Type 0
+  MayLookUp row = (l : Layout) × Readable body-categories K file v l row × (sample < l .samples) × (l .samples ≤ length work)
 
-    may-look-up : zero < K → Bytes file → Holds (λ (row left : List ℕ). MayLookUp row) (lookup-out K file v sample work)
-    may-look-up p y =
-        by-bind (IsLayout K file) (λ (row left : List ℕ). MayLookUp row) (read-layout K file) _ (layout-as-written K file p y) (λ l left w.
-        by-need (λ (row left : List ℕ). MayLookUp row) (holds-row work l) 10 0 _ (λ t.
-        by-need (λ (row left : List ℕ). MayLookUp row) (ltb (v .0) (length (l .bodies))) 11 0 _ (λ there.
-        by-need (λ (row left : List ℕ). MayLookUp row) (ltb sample (l .samples)) 11 0 _ (λ s.
-        found p y l left w (λ (row left : List ℕ). MayLookUp row) (λ row left r.
-        (l, r, ltb-true sample (l .samples) s, leb-true (l .samples) (length work) t)) there))))
+  may-look-up : zero < K → Bytes file → Holds (λ (row left : List ℕ). MayLookUp row) (lookup-out K file v sample work)
+  may-look-up p y =
+      by-bind (IsLayout K file) (λ (row left : List ℕ). MayLookUp row) (read-layout K file) _ (layout-as-written K file p y) (λ l left w.
+      by-need (λ (row left : List ℕ). MayLookUp row) (holds-row work l) 10 0 _ (λ t.
+      by-need (λ (row left : List ℕ). MayLookUp row) (ltb (v .0) (length (l .bodies))) 11 0 _ (λ there.
+      by-need (λ (row left : List ℕ). MayLookUp row) (ltb sample (l .samples)) 11 0 _ (λ s.
+      found body-categories K file v p y l left w (λ (row left : List ℕ). MayLookUp row) (λ row left r.
+      (l, r, ltb-true sample (l .samples) s, leb-true (l .samples) (length work) t)) there))))
 
-    lookup-passes : zero < K → Bytes file → (row : List ℕ) → MayLookUp row → lookup-out K file v sample work ≡ ok row []
-    lookup-passes p y row m =
-        let l : Layout = m .0 in
-        simp (
-          header-found p l row (m .1),
-          le-leb (l .samples) (length work) (m .3),
-          variant-found p l row (m .1),
-          lt-ltb sample (l .samples) (m .2),
-          row-found p l row (m .1) y,
-        )
+  lookup-passes : zero < K → Bytes file → (row : List ℕ) → MayLookUp row → lookup-out K file v sample work ≡ ok row []
+  lookup-passes p y row m =
+      let l : Layout = m .0 in
+      simp (
+        header-found body-categories K file v p l row (m .1),
+        le-leb (l .samples) (length work) (m .3),
+        variant-found body-categories K file v p l row (m .1),
+        lt-ltb sample (l .samples) (m .2),
+        row-found body-categories K file v p l row (m .1) y,
+      )
 
-    -- DEMAND 2: a lookup is accepted exactly when the header, the variant's record and its anchor's obey, the variant is below M, the sample below N, and
-    -- the work area has N bytes
-    pub lookup-exactly : zero < K → Bytes file
-        → (lookup-call K file v sample work .verdict .refusal .number ≡ 0) ↔ ((row : List ℕ) × MayLookUp row)
-    unfolding lookup-call
-    lookup-exactly p y = (
-      λ e.
-          let a = accepted read-call-numbers refl (lookup-out K file v sample work) (lookup-refusals K file v sample work p y) e in
-          (a .0, subst (Holds (λ (row left : List ℕ). MayLookUp row)) (a .2) (may-look-up p y)),
-      λ h. ap (λ (out : Out (List ℕ)). refusal-of out .number) (lookup-passes p y (h .0) (h .1)),
-    )
+  -- DEMAND 2: a lookup is accepted exactly when the header, the variant's record and its anchor's obey, the variant is below M, the sample below N, and
+  -- the work area has N bytes
+  pub lookup-exactly : zero < K → Bytes file
+      → (lookup-call K file v sample work .verdict .refusal .number ≡ 0) ↔ ((row : List ℕ) × MayLookUp row)
+  unfolding lookup-call
+  lookup-exactly p y = (
+    λ e.
+        let a = accepted read-call-numbers refl (lookup-out K file v sample work) (lookup-refusals K file v sample work p y) e in
+        (a .0, subst (Holds (λ (row left : List ℕ). MayLookUp row)) (a .2) (may-look-up p y)),
+    λ h. ap (λ (out : Out (List ℕ)). refusal-of out .number) (lookup-passes p y (h .0) (h .1)),
+  )
 
-    -- and then it gives that row's category of the sample
-    pub lookup-gives : zero < K → Bytes file → (row : List ℕ) → MayLookUp row → lookup-call K file v sample work .category ≡ getD row sample 0
-    unfolding lookup-call
-    lookup-gives p y row m = simp (lookup-passes p y row m)
+  -- and then it gives that row's category of the sample
+  pub lookup-gives : zero < K → Bytes file → (row : List ℕ) → MayLookUp row → lookup-call K file v sample work .category ≡ getD row sample 0
+  unfolding lookup-call
+  lookup-gives p y row m = simp (lookup-passes p y row m)

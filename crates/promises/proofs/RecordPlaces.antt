@@ -3,7 +3,7 @@
 use mathlib.Core.Path.{_≡_, refl, sym, ap, subst}
 use Prim.Native.Nat.{ℕ, zero, suc, _+_, _-_, _*_, _/_, _≤_, _<_}
 use native.Mathlib.Nat.{mul-suc}
-use mathlib.Core.Bool.{Bool, false}
+use mathlib.Core.Bool.{Bool, true, false}
 use mathlib.Core.List.{List, [], _∷_, _++_, map}
 use lib.ListN.{length, length-append}
 use lib.Dec.{ltb, leb, eqb}
@@ -18,12 +18,14 @@ use Rattle.format.specs.Difflist.{Entry, Rule, groups, number-width, Parts, rea
 use Rattle.format.specs.PairCode.{Coded, coded, not-coded, code-numbered}
 use Rattle.format.specs.Track.{Kind, array, paired, against-anchor, against-category, no-kind, kind, Track, plain, one-bit, leaning, sparse, off-pair}
 use Rattle.format.specs.Track.{off-category, off-anchor, rule, bit-set, as-read, track-bytes, read-pair-code, read-listed, read-kind, read-track}
-use Rattle.format.specs.Body.{kind-of, Body, ended, read-body}
+use Rattle.format.specs.Phase.{phased, phases-bytes, first-count, presence, ones, read-phase-track, read-phases}
+use Rattle.format.specs.Body.{kind-of, type-phased, track-heterozygous, Body, ended, read-body}
 use Rattle.format.proofs.Rules.{by-test, never-both, below-after}
 use Rattle.format.proofs.VarintLaws.{IsVarint, varint-as-written}
 use Rattle.format.proofs.NumbersLaws.{AreNumbers, numbers-as-written, numbers-length, AreBytes, bytes-as-written}
 use Rattle.format.proofs.PackedLaws.{ArePacked, packed-as-written, packed-length}
 use Rattle.format.proofs.TrackLaws.{IsPairCode, pair-code-as-written, IsTrack, track-as-written}
+use Rattle.format.proofs.PhaseLaws.{IsPhases, phases-as-written}
 use Rattle.promises.proofs.PlaceRules.{RefusalIs, is-need, is-map, is-bind, numbers-places, bytes-places, packed-places, RefusedWithin}
 
 -- what is left is not longer than what was there
@@ -223,6 +225,19 @@ module _ (lo end : ℕ) where
   kind-places N anchor (against-category category) bs y l = listed-places (sparse category) N (off-category category) bs y l
   kind-places N anchor no-kind bs y l = none 8 0 refl
 
+  -- the phase track: its first part, then its phase bits
+  phase-track-places : (H : ℕ) (bs : List ℕ) → Bytes bs → lo + length bs ≤ end → RefusalIs P (read-phase-track end H bs)
+  unfolding read-phase-track
+  phase-track-places H bs y l =
+      is-bind (ArePacked one (first-count H bs) bs) P (read-packed end one (first-count H bs) bs) _ (packed-as-written end one (first-count H bs) bs y)
+      (array-places one (first-count H bs) bs l) (λ first left g.
+      is-map P _ (read-packed end one (ones (presence H first)) left)
+      (array-places one (ones (presence H first)) left (omega (arith, left-shorter bs (packed one first) left (g .written)))))
+
+  phases-places : (has : Bool) (H : ℕ) (bs : List ℕ) → Bytes bs → lo + length bs ≤ end → RefusalIs P (read-phases has end H bs)
+  phases-places true H bs y l = is-map P phased (read-phase-track end H bs) (phase-track-places H bs y l)
+  phases-places false H bs y l = tt
+
   -- bytes that are left stand in the record
   ended-places : (body : Body) (left : List ℕ) → lo + length left ≤ end → RefusalIs P (ended end body left)
   ended-places body [] l = tt
@@ -234,4 +249,9 @@ module _ (lo end : ℕ) where
   body-places N anchor type bs y l =
       is-bind (IsTrack N anchor (kind-of type) bs) P (read-track end N anchor (kind-of type) bs) _ (track-as-written end N anchor (kind-of type) bs y)
       (kind-places N anchor (kind (kind-of type)) bs y l) (λ t left i.
-      ended-places (record { main = t }) left (omega (arith, left-shorter bs (track-bytes N t) left (i .written))))
+      let H : ℕ = track-heterozygous N anchor t in
+      let s : length (track-bytes N t) + length left ≡ length bs = left-shorter bs (track-bytes N t) left (i .written) in
+      let z : Bytes left = left-bytes bs (track-bytes N t) left (i .written) y in
+      is-bind (IsPhases (type-phased type) H left) P (read-phases (type-phased type) end H left) _ (phases-as-written (type-phased type) end H left z)
+      (phases-places (type-phased type) H left z (omega arith)) (λ p rest j.
+      ended-places (record { main = t; phases = p }) rest (omega (arith, left-shorter left (phases-bytes p) rest (j .written)))))

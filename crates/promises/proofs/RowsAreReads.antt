@@ -141,7 +141,7 @@ module _ (file work₀ : List ℕ) (y : Bytes file) (l : Layout) (a : read-layou
   -- ---- after v calls
 
   -- the state stands before variant v, or none is left
-  data Reached (v : ℕ) (at : At) : Type 0 where
+  pub data Reached (v : ℕ) (at : At) : Type 0 where
     within : Before l work₀ v (at .rows) (at .work) → Reached v at
     beyond : M ≤ v → Before l work₀ M (at .rows) (at .work) → Reached v at
 
@@ -158,7 +158,7 @@ module _ (file work₀ : List ℕ) (y : Bytes file) (l : Layout) (a : read-layou
       within (moves-on v (at .rows) (at .work) output k h o .next))
   on v at output o (beyond h k) = stays v at output o h k
 
-  reach : (outputs : ℕ → List ℕ) (v : ℕ) → ((u : ℕ) → u < v → N ≤ length (outputs u)) → Reached v (walked file outputs (from first work₀) v)
+  pub reach : (outputs : ℕ → List ℕ) (v : ℕ) → ((u : ℕ) → u < v → N ≤ length (outputs u)) → Reached v (walked file outputs (from first work₀) v)
   unfolding walked
   reach outputs zero each = within begins
   reach outputs (suc v) each =
@@ -196,3 +196,19 @@ rows-are-reads file work rows y e outputs v each output =
     subst (λ (r : Rows). AsRead file work v output (called file (walked file outputs (from r work) v) output)) (sym (s .rows-are))
     (gives file work y l (s .is-accepted) (s .room) v (walked file outputs (from (first-row (fields-of (fixed-of l))) work) v) output
     (reach file work y l (s .is-accepted) (s .room) outputs v held))
+
+-- And through all of them the state keeps the file's fields.
+pub fields-kept : (file work : List ℕ) (rows : Rows) → Bytes file → start-rows-call file work ≡ ok rows []
+    → (outputs : ℕ → List ℕ) (v : ℕ) → ((u : ℕ) → u < v → rows .fields .samples ≤ length (outputs u))
+    → walked file outputs (from rows work) v .rows .fields ≡ rows .fields
+fields-kept file work rows y e outputs v each =
+    let s : FromStart file work rows = from-start file work rows y e in
+    let l : Layout = s .layout in
+    subst (λ (r : Rows). walked file outputs (from r work) v .rows .fields ≡ r .fields) (sym (s .rows-are))
+    (go (reach file work y l (s .is-accepted) (s .room) outputs v
+    (λ u h. subst (λ (r : Rows). r .fields .samples ≤ length (outputs u)) (s .rows-are) (each u h))))
+  where
+    go : {l : Layout} {a : read-layout K file ≡ ok l []} {w₀ : l .samples ≤ length work} {v : ℕ} {at : At} → Reached file work y l a w₀ v at
+        → at .rows .fields ≡ fields-of (fixed-of l)
+    go (within k) = ap (λ (r : Rows). r .fields) (k .state-is)
+    go (beyond m k) = ap (λ (r : Rows). r .fields) (k .state-is)

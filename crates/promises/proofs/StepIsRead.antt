@@ -17,7 +17,7 @@ use Rattle.format.specs.Classes.{record-numbers, among}
 use Rattle.format.specs.Body.{Body, type-leans, body-categories, read-body}
 use Rattle.format.specs.Variant.{file-variant, next-variant, in-block, anchor}
 use Rattle.format.specs.Layout.{fields-of, Layout, LayoutObeys, fixed-of, record-start, type-allowed}
-use Rattle.format.specs.File.{type-of, variant-leans, read-over, read-variant}
+use Rattle.format.specs.File.{type-of, variant-leans, read-over, read-variant, over-as, variant-as}
 use Rattle.format.specs.Reply.{verdict, given}
 use Rattle.format.proofs.Rules.{by-test}
 use Rattle.format.proofs.Refuses.{Refuses, RecordNumber, class-holds, not-none}
@@ -35,7 +35,7 @@ use Rattle.head_places.specs.Located.{HasLayout, place-in, Located}
 use Rattle.head_places.proofs.AcceptedLaws.{end-inside, place-is}
 use Rattle.read_file.specs.Rows.{row-replied}
 use Rattle.read_file.proofs.Cut.{body-is-bytes, recorded-is}
-use Rattle.read_file.proofs.OneLaws.{read-too}
+use Rattle.read_file.proofs.LentLaws.{read-too}
 use Rattle.call_rows.specs.declared.Rows.{Rows}
 use Rattle.call_rows.specs.Calls.{anchor-told, type-follows, next-record, Left, alone, leaning, read-at, over-nothing, over-anchor, stepped, next-row-in}
 use Rattle.call_rows.proofs.StateLaws.{state-fine}
@@ -54,7 +54,7 @@ pub data Told (N : ℕ) (why : Refusal) (work : List ℕ) (m : Out (List ℕ)) :
   was-refused : RecordNumber (why .number) → m ≡ refused why → Told N why work m
 
 -- so the state tells of an anchor
-told-known : {N : ℕ} {why : Refusal} {work : List ℕ} {m : Out (List ℕ)} → Told N why work m → anchor-told why ≡ true
+pub told-known : {N : ℕ} {why : Refusal} {work : List ℕ} {m : Out (List ℕ)} → Told N why work m → anchor-told why ≡ true
 unfolding anchor-told
 told-known {why = why} (was-accepted left z e) = rw (eq-eqb (why .number) 0 z) refl
 told-known {why = why} (was-refused c e) = class-holds (among (0 ∷ record-numbers)) record-numbers (why .number) refl c
@@ -130,13 +130,13 @@ module _ (index held : List ℕ) (y : Bytes held) (l : Layout) (a : Stored K ind
     abbrev st : Rows
     st = state l v why
 
-    follows : (variant-leans l here ≡ true → anchor-told why ≡ true) → type-follows st type ≡ true
+    pub follows : (variant-leans l here ≡ true → anchor-told why ≡ true) → type-follows st type ≡ true
     unfolding type-follows
     follows k =
         pair (type-allowed (in-block K here) type) (not (type-leans type) || anchor-told why) type-is-allowed
         (only-where (type-leans type) (anchor-told why) (λ t. k (ap type-leans (sym same-type) ∙ t)))
 
-    found-there : (output work : ℕ) → N ≤ output → N ≤ work → type-follows st type ≡ true → next-record st index held output work ≡ ok at []
+    pub found-there : (output work : ℕ) → N ≤ output → N ≤ work → type-follows st type ≡ true → next-record st index held output work ≡ ok at []
     found-there output work o w t =
         sym (record-there st index held t (end-inside has b refl refl)
         ∙ next-is st index held output work (state-fine st output work (obeys .fixed .variants) (obeys .fixed .samples) o w b))
@@ -144,7 +144,7 @@ module _ (index held : List ℕ) (y : Bytes held) (l : Layout) (a : Stored K ind
 
     -- and read
     over-row : (row : List ℕ) → read-at st held at row ≡ row-replied N row (read-over K l (take N row) here)
-    unfolding read-over
+    unfolding over-as
     over-row row =
         recorded-is located row
         ∙ read-too N row (read-body (record-start K l (next-variant here)) N (take N row) (type-of l here) (getD (l .bodies) v []))
@@ -165,15 +165,15 @@ module _ (index held : List ℕ) (y : Bytes held) (l : Layout) (a : Stored K ind
 
       module _ (s : variant-leans l here ≡ false) where
         stands-is : read-variant K l here ≡ read-over K l [] here
-        unfolding read-variant
+        unfolding variant-as
         stands-is = rw s refl
 
         alike : read-over K l [] here ≡ read-over K l (take N work) here
-        unfolding read-over
+        unfolding over-as
         alike = stands-alike K l (lit< tt) obeys v (take N work) (body-is-bytes has y v) s
 
         count : (row left : List ℕ) → read-over K l (take N work) here ≡ ok row left → length row ≡ N
-        unfolding read-over
+        unfolding over-as
         count row left e = go (record-over K l v (take N work)) refl e
           where
             go : (m : Out Body) → record-over K l v (take N work) ≡ m → map-out (body-categories N (take N work)) m ≡ ok row left → length row ≡ N
@@ -223,7 +223,7 @@ module _ (index held : List ℕ) (y : Bytes held) (l : Layout) (a : Stored K ind
         stands : Stepped l work₀ v output (read-variant K l here) (over-nothing st held at output work)
         stands =
             let all : Refuses RecordNumber (read-variant K l here)
-            = variant-refusals K l (lit< tt) obeys (stored-bodies K index held l a y) here b in
+            = variant-refusals K l (lit< tt) obeys (stored-bodies K index held l a y) body-categories here b in
             rw (stands-is ∙ alike, over-row work)
             (alone-step (read-over K l (take N work) here) refl (subst (Refuses RecordNumber) (stands-is ∙ alike) all))
 
@@ -231,7 +231,7 @@ module _ (index held : List ℕ) (y : Bytes held) (l : Layout) (a : Stored K ind
 
       module _ (t : variant-leans l here ≡ true) (k : Told N why work (read-over K l [] (anchor K (l .types) here))) where
         leans-is : read-variant K l here ≡ bind (read-over K l [] (anchor K (l .types) here)) (λ lent left. read-over K l lent here)
-        unfolding read-variant
+        unfolding variant-as
         leans-is = rw t refl
 
         -- the same anchor stays for the next

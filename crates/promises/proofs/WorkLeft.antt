@@ -14,9 +14,10 @@ use Rattle.format.specs.Base.{pick, Out, ok, refused, bind, need}
 use Rattle.format.specs.Classes.{among}
 use Rattle.format.specs.Layout.{Layout}
 use Rattle.format.specs.Header.{read-layout}
-use Rattle.format.specs.File.{read-variant}
+use Rattle.format.specs.Body.{Body, body-categories, body-phases}
+use Rattle.format.specs.File.{variant-as}
 use Rattle.format.specs.Reply.{refusal-of, given, emptied, work-after, samples-of, holds-row, holds-set, with-layout, checked, check-out, check-call}
-use Rattle.format.specs.Reply.{need-variant, read-out, read-call, lookup-out, lookup-call, flip-out, flip-call}
+use Rattle.format.specs.Reply.{need-variant, out-as, read-as, read-call, phases-call, lookup-out, lookup-call, flip-out, flip-call}
 use Rattle.format.proofs.Rules.{never-both, both}
 use Rattle.format.proofs.Refuses.{Refuses, HeaderNumber}
 use Rattle.format.proofs.HeaderRefusals.{header-refusals}
@@ -74,13 +75,23 @@ unfolding check-call
 check-work K file work =
     work-left (samples-of K file) (refusal-of (check-out K file work)) work (sized-for K file (holds-row work) (checked K) work (holds work))
 
+-- a reading of categories or of phases
+as-work : (what : ℕ → List ℕ → Body → List ℕ) (K : ℕ) (file : List ℕ) (v : FileVariant) (output work : List ℕ)
+    → WorkLeft (samples-of K file) (read-as what K file v output work .verdict .refusal .number) work (read-as what K file v output work .work)
+as-work what K file v output work =
+    work-left (samples-of K file) (refusal-of (out-as what K file v output work)) work
+    (sized-for K file (λ (l : Layout). holds-row output l && holds-row work l) (λ (l : Layout). need-variant v l (variant-as what K l v)) work (λ l t.
+    holds work l (both (holds-row output l) (holds-row work l) t .1)))
+
+pub phases-work : (K : ℕ) (file : List ℕ) (v : FileVariant) (output work : List ℕ)
+    → WorkLeft (samples-of K file) (phases-call K file v output work .verdict .refusal .number) work (phases-call K file v output work .work)
+unfolding phases-call
+phases-work K file v output work = as-work body-phases K file v output work
+
 pub read-work : (K : ℕ) (file : List ℕ) (v : FileVariant) (output work : List ℕ)
     → WorkLeft (samples-of K file) (read-call K file v output work .verdict .refusal .number) work (read-call K file v output work .work)
 unfolding read-call
-read-work K file v output work =
-    work-left (samples-of K file) (refusal-of (read-out K file v output work)) work
-    (sized-for K file (λ (l : Layout). holds-row output l && holds-row work l) (λ (l : Layout). need-variant v l (read-variant K l v)) work (λ l t.
-    holds work l (both (holds-row output l) (holds-row work l) t .1)))
+read-work K file v output work = as-work body-categories K file v output work
 
 pub lookup-work : (K : ℕ) (file : List ℕ) (v : FileVariant) (sample : ℕ) (work : List ℕ)
     → WorkLeft (samples-of K file) (lookup-call K file v sample work .verdict .refusal .number) work (lookup-call K file v sample work .work)

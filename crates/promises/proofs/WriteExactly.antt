@@ -16,7 +16,7 @@ use Rattle.format.specs.PairCode.{code-1, code-2, code-3, code-5, code-6, code-
 use Rattle.format.specs.Track.{Kind, array, paired, against-anchor, against-category, no-kind, kind, leans, Track, track-kind, Fits, track-bytes}
 use Rattle.format.specs.Track.{track-categories}
 use Rattle.format.specs.Layout.{from-1-to}
-use Rattle.format.specs.Writer.{pair-track, kind-track, track-for, need-categories, write-record, track-code, cleared}
+use Rattle.format.specs.Writer.{pair-track, kind-track, track-for, need-categories, with-track, write-record, track-code, cleared}
 use Rattle.format.specs.Reply.{is-accepted, refusal-of, given, write-call}
 use Rattle.format.proofs.Rules.{Holds, by-need, never-both}
 use Rattle.format.proofs.PairLaws.{IsCode, code-as-written}
@@ -54,7 +54,7 @@ kind-and-code-allowed number code =
 
 -- ---- refusal 20: passed exactly when each category is below 4
 
-categories-exactly : {A : Type 0} (i : ℕ) (categories : List ℕ) (next : Out A) (a : A) (left : List ℕ)
+pub categories-exactly : {A : Type 0} (i : ℕ) (categories : List ℕ) (next : Out A) (a : A) (left : List ℕ)
     → (need-categories i categories next ≡ ok a left) ↔ (Below 4 categories × (next ≡ ok a left))
 unfolding need-categories
 categories-exactly i [] next a left = (λ e. (tt, e), λ h. h .1)
@@ -162,52 +162,74 @@ module _ (categories : List ℕ) (number code : ℕ) (anchor : List ℕ) where
         there (ok t left) e a = (t, made b t left e)
         there (refused why) e a = never-both a refl
 
+  -- ---- 4, 19 and the anchor's 10: what comes after them is reached exactly with such a record
+
+  pub record Reaches (t : Track) : Type 0 where
+    pub some : 1 ≤ n
+    pub few : n ≤ most-samples
+    pub lent : length anchor ≡ pick (leans number) n 0
+    pub is-record : Below 4 categories → RecordFor categories number code anchor t
+
+  pub track-passes : (t : Track) (next : Track → Out (List ℕ)) → 1 ≤ n → n ≤ most-samples → length anchor ≡ pick (leans number) n 0
+      → RecordFor categories number code anchor t
+      → with-track categories number code anchor next ≡ next t
+  track-passes t next some few lent r =
+      simp (le-leb 1 n some, le-leb n most-samples few, found lent t r) (simp (eq-eqb (length anchor) (pick (leans number) n 0) lent))
+
+  pub track-reached : (next : Track → Out (List ℕ)) (bs left : List ℕ) → with-track categories number code anchor next ≡ ok bs left
+      → (t : Track) × Reaches t × (next t ≡ ok bs left)
+  track-reached next bs left e =
+      let a = passed (from-1-to most-samples n) 4 0 _ bs left e in
+      go (track-for number code anchor categories) refl (a .0) (a .1)
+    where
+      go : (m : Out Track) → track-for number code anchor categories ≡ m → from-1-to most-samples n ≡ true
+          → bind m (λ t left₁. need (eqb (length anchor) (pick (leans number) n 0)) 10 0 (next t)) ≡ ok bs left
+          → (t : Track) × Reaches t × (next t ≡ ok bs left)
+      go (refused why) q sized e = let z : _≡_ {A = ℕ} 0 1 = cc in absurd (omega arith)
+      go (ok t left₁) q sized e =
+          let b = passed (eqb (length anchor) (pick (leans number) n 0)) 10 0 (next t) bs left e in
+          let lent : length anchor ≡ pick (leans number) n 0 = eqb-true (length anchor) (pick (leans number) n 0) (b .0) in
+          let reaches : Reaches t
+          = record {
+            some = from-1-to-positive most-samples n sized;
+            few = from-1-to-most most-samples n sized;
+            lent = lent;
+            is-record = λ small. made lent small t left₁ q;
+          } in
+          (t, reaches, b .1)
+
   module _ (output : List ℕ) where
     write-passes : (t : Track) → MayWrite categories number code anchor output t
         → write-record categories number code anchor (length output) ≡ ok (track-bytes n t) []
     unfolding write-record
     write-passes t m =
-        simp (le-leb 1 n (m .some), le-leb n most-samples (m .few), found (m .anchor-count) t (m .is-record))
-        (simp (eq-eqb (length anchor) (pick (leans number) n 0) (m .anchor-count))
-        (categories-exactly 0 categories _ (track-bytes n t) [] .1 (
+        track-passes t _ (m .some) (m .few) (m .anchor-count) (m .is-record)
+        ∙ categories-exactly 0 categories _ (track-bytes n t) [] .1 (
           m .categories-small,
           categories-exactly 0 anchor _ (track-bytes n t) [] .1 (m .anchor-small, simp (le-leb (length (track-bytes n t)) (length output) (m .room))),
-        )))
+        )
 
     may-write : (bs left : List ℕ) → write-record categories number code anchor (length output) ≡ ok bs left
         → (t : Track) × MayWrite categories number code anchor output t
     unfolding write-record
     may-write bs left e =
-        let a = passed (from-1-to most-samples n) 4 0 _ bs left e in
-        tracked (track-for number code anchor categories) refl (a .0) (a .1)
-      where
-        rest : Track → Out (List ℕ)
-        rest t =
-            need (eqb (length anchor) (pick (leans number) n 0)) 10 0
-            (need-categories 0 categories
-            (need-categories 0 anchor
-            (need (leb (length (track-bytes n t)) (length output)) 10 0 (ok (track-bytes n t) []))))
-
-        tracked : (m : Out Track) → track-for number code anchor categories ≡ m → from-1-to most-samples n ≡ true → bind m (λ t left₁. rest t) ≡ ok bs left
-            → (t : Track) × MayWrite categories number code anchor output t
-        tracked (refused why) q sized e = let z : _≡_ {A = ℕ} 0 1 = cc in absurd (omega arith)
-        tracked (ok t left₁) q sized e =
-            let b = passed (eqb (length anchor) (pick (leans number) n 0)) 10 0 _ bs left e in
-            let c = categories-exactly 0 categories _ bs left .0 (b .1) in
-            let d = categories-exactly 0 anchor _ bs left .0 (c .1) in
-            let f = passed (leb (length (track-bytes n t)) (length output)) 10 0 _ bs left (d .1) in
-            let lent : length anchor ≡ pick (leans number) n 0 = eqb-true (length anchor) (pick (leans number) n 0) (b .0) in (
-              t,
-              record {
-                some = from-1-to-positive most-samples n sized;
-                few = from-1-to-most most-samples n sized;
-                is-record = made lent (c .0) t left₁ q;
-                anchor-count = lent;
-                categories-small = c .0;
-                anchor-small = d .0;
-                room = leb-true (length (track-bytes n t)) (length output) (f .0);
-              },
-            )
+        let a = track-reached _ bs left e in
+        let t : Track = a .0 in
+        let r : Reaches t = a .1 in
+        let c = categories-exactly 0 categories _ bs left .0 (a .2) in
+        let d = categories-exactly 0 anchor _ bs left .0 (c .1) in
+        let f = passed (leb (length (track-bytes n t)) (length output)) 10 0 _ bs left (d .1) in (
+          t,
+          record {
+            some = r .some;
+            few = r .few;
+            is-record = r .is-record (c .0);
+            anchor-count = r .lent;
+            categories-small = c .0;
+            anchor-small = d .0;
+            room = leb-true (length (track-bytes n t)) (length output) (f .0);
+          },
+        )
 
     -- DEMAND 2 of the writer: accepted exactly when there are 1 to 65,536 categories, all below 4 as the anchor's are, the anchor is as long as the kind
     -- asks, and there is a record for them that the output has room for

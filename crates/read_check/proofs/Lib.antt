@@ -1,3 +1,4 @@
 pub mod TrackLaws
+pub mod PhasedLaws
 pub mod BodyLaws
 pub mod NextLaws

@@ -1,6 +1,6 @@
 -- What each way out of the checks of a track says.
 -- Assumes nothing.
-use mathlib.Core.Path.{_≡_, refl, ap, _∙_}
+use mathlib.Core.Path.{_≡_, refl, ap}
 use Prim.Native.Nat.{ℕ, _-_, _≤_, _<_}
 use native.Mathlib.Omega.{arith}
 use mathlib.Core.Bool.{Bool, true, false, not, _||_}
@@ -10,7 +10,7 @@ use lib.Dec.{eqb}
 use mir.Syntax.{w8}
 use mir.Val.{Fits as Bounded}
 use Rattle.format.specs.declared.Refusal.{Refusal}
-use Rattle.format.specs.Base.{Out, ok, refused, refusal, bind, map-out}
+use Rattle.format.specs.Base.{Out, ok, refused, refusal, bind}
 use Rattle.format.specs.Packed.{Bits, one, two, read-packed}
 use Rattle.format.specs.Difflist.{number-width, read-list}
 use Rattle.format.specs.PairCode.{PairCode, pair, found}
@@ -35,6 +35,7 @@ use Rattle.read_record.specs.Rows.{off-both}
 use Rattle.read_record.proofs.RuleLaws.{list-same}
 use Rattle.read_record.proofs.CodeLaws.{code-inside, UnderCode, code-missing, code-unknown, code-known}
 use Rattle.read_record.proofs.BodyLaws.{leaning-kind, sparse-kind}
+use Rattle.read_record.proofs.EndLaws.{stepped-map}
 use Rattle.read_check.specs.Checked.{track-checked, bits-checked}
 
 -- what an array was found to be
@@ -79,11 +80,6 @@ module _ (l : List ℕ) (at n lower higher : ℕ) (got : PackedStep) (told : got
 pub ruleset part-laws = (plain-refused, plain-next, next-inside, bits-refused, bits-listed)
 
 -- ---- kind 1
-
--- the cursor past what was read does not depend on what it is made into
-stepped-map : {A B : Type 0} (end : ℕ) (f : A → B) (m : Out A) → stepped end (map-out f m) ≡ stepped end m
-stepped-map end f (ok a left) = refl
-stepped-map end f (refused why) = refl
 
 bits-through : (l : List ℕ) (n : ℕ) (c : PairCode) (m : Out (List ℕ))
     → stepped (length l) (bind m (λ bits left₂. read-listed (one-bit c (map bit-set bits)) (length l) n (off-pair c) left₂))

@@ -1,6 +1,7 @@
 -- The contract: what the check of a record answers, over the row that holds its anchor's categories. Only a record that leans looks at the row.
 -- Assumes nothing.
 use Prim.Native.Nat.{ℕ}
+use mathlib.Core.Bool.{true}
 use mathlib.Core.List.{List}
 use lib.ListN.{length, take, drop}
 use Rattle.format.specs.Base.{bind}
@@ -9,10 +10,14 @@ use Rattle.format.specs.Difflist.{number-width, read-list}
 use Rattle.format.specs.Track.{Kind, rule, read-kind}
 use Rattle.format.specs.Body.{read-body}
 use Rattle.format.specs.declared.Reply.{Reply}
+use Rattle.format.specs.declared.Reply.the-variants.{Refused}
 use Rattle.read_list.specs.Checked.{stepped}
+use Rattle.read_list.specs.Counted.{counted}
+use Rattle.read_list.specs.declared.CountedStep.{CountedStep}
+use Rattle.read_list.specs.declared.CountedStep.the-variants as count
 use Rattle.read_list.specs.declared.ListStep.{ListStep}
 use Rattle.read_record.specs.Rows.{off-both}
-use Rattle.read_record.specs.Recorded.{replied}
+use Rattle.read_record.specs.Recorded.{replied, end-checked}
 
 -- the track of a kind at `start`, of a record that ends where the list l does
 unfoldable pub track-checked : Kind → ℕ → List ℕ → ℕ → List ℕ → ListStep
@@ -23,6 +28,14 @@ unfoldable pub bits-checked : ℕ → ℕ → ℕ → List ℕ → ℕ → ListS
 bits-checked lower higher n l at =
     stepped (length l)
     (bind (read-packed (length l) one n (drop at l)) (λ bits left. read-list (rule n (off-both lower higher)) (number-width n) (length l) left))
+
+-- a record that leans, with a phase track. 02, Ask 1: "H is the number of samples in category 1": of the row that its list makes
+abbrev pub counted-replied : List ℕ → CountedStep → Reply
+counted-replied l (count.Refused why) = Refused why
+counted-replied l (count.Counted next H) = end-checked true H l (next .at)
+
+unfoldable pub phased-checked : ℕ → List ℕ → ℕ → List ℕ → Reply
+phased-checked n l start row = counted-replied l (counted n l start row)
 
 -- the record of a type
 unfoldable pub body-checked : ℕ → ℕ → List ℕ → ℕ → List ℕ → Reply

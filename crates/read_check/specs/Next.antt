@@ -1,14 +1,18 @@
 -- The contract: what the next record of a check of all does to the row that holds its anchor's categories.
 -- Assumes nothing.
 use Prim.Native.Nat.{ℕ}
-use mathlib.Core.Bool.{not, _&&_}
+use mathlib.Core.Bool.{Bool, not, _&&_, _||_}
 use mathlib.Core.List.{List}
 use Rattle.format.specs.Base.{pick}
-use Rattle.format.specs.Body.{type-leans}
+use Rattle.format.specs.Body.{type-leans, type-phased}
 use Rattle.read_record.specs.Recorded.{RecordLeft, record-left, recorded}
 use Rattle.read_check.specs.Checked.{body-checked}
 
--- it is read into the row where it leans on none and the record of type `after` that comes then leans; else it is only checked and the row stays
+-- whether its own row is made: it leans on none, and has a phase track, or is the anchor of the record of type `after` that comes then
+unfoldable pub row-made : ℕ → ℕ → Bool
+row-made type after = not (type-leans type) && (type-phased type || type-leans after)
+
+-- it is read into the row, or only checked, and then the row stays
 unfoldable pub next-checked : ℕ → ℕ → ℕ → List ℕ → ℕ → List ℕ → RecordLeft
 next-checked n type after l start row =
-    pick (not (type-leans type) && type-leans after) (recorded n type l start row) (record-left (body-checked n type l start row) row)
+    pick (row-made type after) (recorded n type l start row) (record-left (body-checked n type l start row) row)

@@ -8,12 +8,17 @@ use format::Reply;
 use format::refusal_at;
 use head_types::kind_of;
 use head_types::type_leans;
+use head_types::type_phased;
+use read_list::CountedStep;
 use read_list::ListRule;
 use read_list::ListStep;
 use read_list::check::check_list;
+use read_list::count::count_list;
 use read_packed::PackedStep;
 use read_packed::Width;
 use read_packed::check_array;
+use read_phase::heterozygous_count;
+use read_record::check_phased_end;
 use read_record::read_body;
 use read_record::whole_record;
 ghost use mathlib.Core.Path.{_≡_};
@@ -21,12 +26,12 @@ ghost use mathlib.Core.Bool.{true};
 ghost use mathlib.Core.List.{[]};
 ghost use Prim.Native.Nat.{_≤_, _<_};
 ghost use lib.ListN.{length};
-ghost use Rattle.format.specs.Body.{kind-of, type-leans};
+ghost use Rattle.format.specs.Body.{kind-of, type-leans, type-phased};
 ghost use Rattle.format.specs.Limits.{most-samples};
 ghost use Rattle.format.specs.Track.{array, paired, kind, leans};
 ghost use Rattle.read_record.specs.Recorded.{record-left};
-ghost use Rattle.read_check.specs.Checked.{track-checked, bits-checked, body-checked};
-ghost use Rattle.read_check.specs.Next.{next-checked};
+ghost use Rattle.read_check.specs.Checked.{track-checked, bits-checked, phased-checked, body-checked};
+ghost use Rattle.read_check.specs.Next.{row-made, next-checked};
 
 // "Kind 0: the packed array."
 fn check_plain(s: &[u8], c: Cursor, n: usize) -> ListStep
@@ -92,17 +97,46 @@ pub fn check_track(s: &[u8], c: Cursor, n: usize, number: u8, row: &[u8]) -> Lis
     check_list(s, n, ListRule::OffPair(category, category), c, row)
 }
 
-// The record of a type, at `c`.
+// A record that leans, with a phase track after its list: H is counted as the list is checked, so no row is made.
+fn check_phased(s: &[u8], c: Cursor, n: usize, row: &[u8]) -> Reply
+    requires { ⌜ (c .at ≤ length (now s)) × (n ≤ most-samples) × (n ≤ length (now row)) ⌝ }
+    ensures { λ r. ⌜ r ≡ phased-checked n (now (s .entry)) (c .at) (now (row .entry)) ⌝ }
+{
+    let counted = count_list(s, n, c, row, heterozygous_count(row, n));
+    match counted {
+        CountedStep::Refused(why) => Reply::Refused(why),
+        CountedStep::Counted(next, h) => check_phased_end(s, next, h),
+    }
+}
+
+// The record of a type, at `c`. One with a phase track leans: another's H would want a row.
 pub fn check_body(s: &[u8], c: Cursor, n: usize, record_type: u8, row: &[u8]) -> Reply
-    requires { ⌜ (c .at ≤ length (now s)) × (n ≤ most-samples) ⌝ }
-    requires { ⌜ (kind-of record_type ≡ 5 → ⊥) × (type-leans record_type ≡ true → n ≤ length (now row)) ⌝ }
+    requires { ⌜ (c .at ≤ length (now s)) × (n ≤ most-samples) × (kind-of record_type ≡ 5 → ⊥) ⌝ }
+    requires { ⌜ (type-phased record_type ≡ true → type-leans record_type ≡ true) × (type-leans record_type ≡ true → n ≤ length (now row)) ⌝ }
     ensures { λ r. ⌜ r ≡ body-checked n record_type (now (s .entry)) (c .at) (now (row .entry)) ⌝ }
 {
+    if type_phased(record_type) {
+        return check_phased(s, c, n, row);
+    }
     whole_record(check_track(s, c, n, kind_of(record_type), row), s.len())
 }
 
+// Whether a record's own row is made, in a check of all: one that leans on none is read into the row for its own phase track, or for the record after it
+// if that leans.
+fn row_made(record_type: u8, after: u8) -> bool
+    ensures { λ r. ⌜ r ≡ row-made record_type after ⌝ }
+{
+    if type_leans(record_type) {
+        return false;
+    }
+    if type_phased(record_type) {
+        return true;
+    }
+    type_leans(after)
+}
+
 // The next record of a check of all, in variant order; `after` is the type of the record after it. The row's first n bytes hold the anchor's categories if it
-// leans, and then they stay. They become its own only where the record after it leans, whose anchor it is; elsewhere nothing looks at them: no row is made.
+// leans, and then they stay. They become its own only where its row is made; elsewhere nothing looks at them.
 pub fn check_next(
     s: &[u8],
     c: Cursor,
@@ -115,10 +149,8 @@ pub fn check_next(
     requires { ⌜ (kind-of record_type ≡ 5 → ⊥) ⌝ }
     ensures { λ r. ⌜ record-left r (now (row .exit)) ≡ next-checked n record_type after (now (s .entry)) (c .at) (now (row .entry)) ⌝ }
 {
-    if !type_leans(record_type) {
-        if type_leans(after) {
-            return read_body(s, c, n, record_type, row);
-        }
+    if row_made(record_type, after) {
+        return read_body(s, c, n, record_type, row);
     }
     check_body(s, c, n, record_type, &row[..])
 }

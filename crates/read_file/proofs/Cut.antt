@@ -22,7 +22,7 @@ use Rattle.head_index.proofs.StartLaws.{stored-record}
 use Rattle.head_places.specs.declared.Place.{Place}
 use Rattle.head_places.specs.Located.{HasLayout, Located}
 use Rattle.head_places.proofs.PartLaws.{part-rises, part-inside}
-use Rattle.read_record.specs.Recorded.{record-replied, recorded}
+use Rattle.read_record.specs.Recorded.{record-replied, recorded, phased-replied, phased-recorded}
 
 pub body-is-bytes : {index held : List ℕ} {f : Fields} (h : HasLayout index held f) → Bytes held → (v : ℕ) → Bytes (getD (h .layout .bodies) v [])
 body-is-bytes {index} {held} h y v = stored-bytes v (h .layout .bodies) (stored-bodies variants-to-a-block index held (h .layout) (h .stored) y)
@@ -42,7 +42,7 @@ module _ {index held : List ℕ} {f : Fields} {v : FileVariant} {p : Place} (g :
   type-known =
       let there : v .0 < length (l .types) = omega (arith, g .below, one-type-each variants-to-a-block l (g .has .stored .obeys)) in
       allowed (in-block variants-to-a-block v) (type-of l v)
-      (type-allowed-in variants-to-a-block (l .types) (lit< tt) (g .has .stored .obeys .types) v there) .1
+      (type-allowed-in variants-to-a-block (l .types) (lit< tt) (g .has .stored .obeys .types) v there) .2
 
   pub kind-known : kind-of (p .record_type) ≡ 5 → ⊥
   kind-known = rw (ap (λ (z : Place). z .record_type) (g .is)) type-known
@@ -68,3 +68,9 @@ module _ {index held : List ℕ} {f : Fields} {v : FileVariant} {p : Place} (g :
       (read-body (record-start variants-to-a-block l (next-variant v)) (l .samples) (take (l .samples) row) (type-of l v) (getD (l .bodies) (v .0) []))
   unfolding recorded
   recorded-is row = ap (record-replied (l .samples) row) (body-is (take (l .samples) row))
+
+  pub phased-is : (row output : List ℕ) → phased-recorded (l .samples) (p .record_type) (take (p .end) held) (p .start) row output
+      ≡ phased-replied (l .samples) row output
+      (read-body (record-start variants-to-a-block l (next-variant v)) (l .samples) (take (l .samples) row) (type-of l v) (getD (l .bodies) (v .0) []))
+  unfolding phased-recorded
+  phased-is row output = ap (phased-replied (l .samples) row output) (body-is (take (l .samples) row))

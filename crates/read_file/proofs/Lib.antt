@@ -1,4 +1,6 @@
 pub mod Replies
+pub mod PhasedReplies
 pub mod Cut
 pub mod WalkLaws
+pub mod LentLaws
 pub mod OneLaws

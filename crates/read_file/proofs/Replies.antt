@@ -15,14 +15,15 @@ use Rattle.format.specs.declared.Reply.{Reply}
 use Rattle.format.specs.declared.Reply.the-variants.{Accepted, Refused}
 use Rattle.format.specs.Base.{Bytes, Out, ok, refused}
 use Rattle.format.specs.Limits.{variants-to-a-block}
-use Rattle.format.specs.Body.{Body}
+use Rattle.format.specs.Body.{Body, body-categories}
 use Rattle.format.specs.Layout.{Layout}
 use Rattle.format.specs.Reply.{keeps-work, emptied}
-use Rattle.format.specs.File.{read-all, read-variant}
+use Rattle.format.specs.File.{read-all, variant-as, read-variant}
 use Rattle.format.proofs.Refuses.{Refuses, RecordNumber}
 use Rattle.format.proofs.CallRefusals.{all-refusals, variant-refusals, record-clears-work}
 use Rattle.head_index.proofs.StoredLaws.{stored-bodies}
 use Rattle.head_records.proofs.AcceptedLaws.{samples-are}
+use Rattle.head_places.specs.Located.{HasVariant}
 use Rattle.head_places.proofs.AcceptedLaws.{below-in}
 use Rattle.read_record.specs.Recorded.{replied, record-left}
 use Rattle.read_record.proofs.BodyLaws.{reply-of, row-of}
@@ -78,7 +79,7 @@ pub record Clears {A : Type 0} (m : Out A) (why : Refusal) : Type 0 where
   pub is : m ≡ refused why
   pub clears : keeps-work (why .number) ≡ false
 
-clears-work : {A : Type 0} (m : Out A) (why : Refusal) → Refuses RecordNumber m → m ≡ refused why → Clears m why
+pub clears-work : {A : Type 0} (m : Out A) (why : Refusal) → Refuses RecordNumber m → m ≡ refused why → Clears m why
 clears-work m why all e = record { is = e; clears = record-clears-work (why .number) (subst (Refuses RecordNumber) e all) }
 
 -- of the check of all records
@@ -95,6 +96,14 @@ module _ {index held : List ℕ} {f : Fields} {row : List ℕ} {r : Reply} {late
       clears-work (read-all variants-to-a-block l) why
       (all-refusals variants-to-a-block l (lit< tt) (c .has .stored .obeys) (stored-bodies variants-to-a-block index held l (c .has .stored) y))
       (was-refused (read-all variants-to-a-block l) why (sym (ap reply-of (c .is)) ∙ q))
+
+-- whatever is read of one variant, it is refused by those numbers
+pub refuses-record : {index held : List ℕ} {f : Fields} {v : FileVariant} (h : HasVariant index held f v) → Bytes held
+    → {A : Type 0} (what : ℕ → List ℕ → Body → A) → Refuses RecordNumber (variant-as what variants-to-a-block (h .has .layout) v)
+refuses-record {index} {held} {f} {v} h y what =
+    let l : Layout = h .has .layout in
+    variant-refusals variants-to-a-block l (lit< tt) (h .has .stored .obeys) (stored-bodies variants-to-a-block index held l (h .has .stored) y) what v
+    (below-in (h .has) (h .below))
 
 -- of one variant
 module _ {index held : List ℕ} {f : Fields} {v : FileVariant} {row : List ℕ} {r : Reply} {later : List ℕ} (c : VariantRead index held f v row r later) where
@@ -113,8 +122,7 @@ module _ {index held : List ℕ} {f : Fields} {v : FileVariant} {row : List ℕ}
   pub read-refused : Bytes held → (why : Refusal) → r ≡ Refused why → Clears (read-variant variants-to-a-block l v) why
   read-refused y why q =
       clears-work (read-variant variants-to-a-block l v) why
-      (variant-refusals variants-to-a-block l (lit< tt) (c .has .has .stored .obeys)
-      (stored-bodies variants-to-a-block index held l (c .has .has .stored) y) v (below-in (c .has .has) (c .has .below)))
+      (refuses-record (c .has) y body-categories)
       (row-refused (l .samples) row later r (read-variant variants-to-a-block l v) (c .is) why q)
 
   pub refused-row : (why : Refusal) → r ≡ Refused why → later ≡ emptied (f .samples) row

@@ -1,13 +1,17 @@
-// The records of a file that the header check accepts: all checked in order, or one read over its anchor. `f` holds the fields that the check gave.
+// The records of a file that the header check accepts: all checked in order, or one read over its anchor, its phases too. `f` holds the fields that the check
+// gave.
 ghost use Prim.Native.Nat.{_≤_};
+ghost use lib.ListN.{length};
 ghost use Rattle.format.specs.Limits.{most-variants};
-ghost use Rattle.read_file.specs.Rows.{HasRow, HasVariantRow, TypeIfAny, RecordsChecked, VariantRead};
+ghost use Rattle.head_places.specs.Located.{Located};
+ghost use Rattle.read_file.specs.Rows.{HasRow, HasVariantRow, TypeIfAny, RecordsChecked, AnchorRead, VariantRead, VariantPhased};
 use base_cursor::Cursor;
 use base_rows::clear;
 use format::Fields;
 use format::FileVariant;
 use format::Reply;
 use head_blocks::first_record;
+use head_places::Place;
 use head_places::anchor_of;
 use head_places::place_of;
 use head_records::size_of;
@@ -15,6 +19,7 @@ use head_records::type_of;
 use head_types::type_leans;
 use read_check::check_next;
 use read_record::read_body;
+use read_record::read_phased;
 
 // The type of variant v. Past the last one there is none, and 0 stands for it, a type that leans on no record.
 fn type_if_any(index: &[u8], f: Fields, v: FileVariant) -> u8
@@ -60,25 +65,63 @@ pub fn check_records(index: &[u8], held: &[u8], f: Fields, row: &mut [u8]) -> Re
     Reply::Accepted
 }
 
+// 01: "an anchor is checked before the record that leans on it". The anchor's categories into the row, where the record of variant v at `p` leans.
+fn read_anchor(
+    index: &[u8],
+    held: &[u8],
+    f: Fields,
+    v: FileVariant,
+    p: Place,
+    row: &mut [u8],
+) -> Reply
+    requires { ⌜ HasVariantRow (now index) (now held) f v (now row) ⌝ }
+    requires { ⌜ Located (now index) (now held) f v p ⌝ }
+    ensures { λ r. ⌜ AnchorRead (now (index .entry)) (now (held .entry)) f v (now (row .entry)) r (now (row .exit)) ⌝ }
+{
+    if type_leans(p.record_type) {
+        let a = place_of(index, held, f, anchor_of(index, held, f, v));
+        let end = a.end;
+        let there = Cursor { at: a.start };
+        return read_body(&held[..end], there, f.samples, a.record_type, row);
+    }
+    Reply::Accepted
+}
+
 // 01: "a read or lookup checks only its variant's, and an anchor is checked before the record that leans on it"
 pub fn read_row(index: &[u8], held: &[u8], f: Fields, v: FileVariant, row: &mut [u8]) -> Reply
     requires { ⌜ HasVariantRow (now index) (now held) f v (now row) ⌝ }
     ensures { λ r. ⌜ VariantRead (now (index .entry)) (now (held .entry)) f v (now (row .entry)) r (now (row .exit)) ⌝ }
 {
-    let n = f.samples;
     let p = place_of(index, held, f, v);
     let end = p.end;
     let here = Cursor { at: p.start };
-    if type_leans(p.record_type) {
-        let a = place_of(index, held, f, anchor_of(index, held, f, v));
-        let a_end = a.end;
-        let there = Cursor { at: a.start };
-        let got = read_body(&held[..a_end], there, n, a.record_type, row);
-        match got {
-            Reply::Refused(why) => Reply::Refused(why),
-            Reply::Accepted => read_body(&held[..end], here, n, p.record_type, row),
-        }
-    } else {
-        read_body(&held[..end], here, n, p.record_type, row)
+    let lent = read_anchor(index, held, f, v, p, row);
+    match lent {
+        Reply::Refused(why) => Reply::Refused(why),
+        Reply::Accepted => read_body(&held[..end], here, f.samples, p.record_type, row),
+    }
+}
+
+// Likewise, and its phases into the output, which a refusal finds untouched.
+pub fn read_phases(
+    index: &[u8],
+    held: &[u8],
+    f: Fields,
+    v: FileVariant,
+    row: &mut [u8],
+    output: &mut [u8],
+) -> Reply
+    requires { ⌜ HasVariantRow (now index) (now held) f v (now row) ⌝ }
+    requires { ⌜ f .samples ≤ length (now output) ⌝ }
+    ensures { λ r. ⌜ VariantPhased (now (index .entry)) (now (held .entry)) f v (now (row .entry)) (now (output .entry))
+        r (now (row .exit)) (now (output .exit)) ⌝ }
+{
+    let p = place_of(index, held, f, v);
+    let end = p.end;
+    let here = Cursor { at: p.start };
+    let lent = read_anchor(index, held, f, v, p, row);
+    match lent {
+        Reply::Refused(why) => Reply::Refused(why),
+        Reply::Accepted => read_phased(&held[..end], here, f.samples, p.record_type, row, output),
     }
 }

@@ -1,6 +1,8 @@
 pub mod Entries
 pub mod Room
 pub mod Walked
+pub mod Tallied
 pub mod Parts
 pub mod Listed
 pub mod Checked
+pub mod Counted

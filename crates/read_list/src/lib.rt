@@ -16,6 +16,7 @@ ghost use Rattle.read_list.specs.Parts.{count-of, lay-out, put-parts};
 ghost use Rattle.read_list.specs.Listed.{listed};
 
 pub mod check;
+pub mod count;
 pub mod entry;
 
 use crate::entry::put_entries;
@@ -29,6 +30,12 @@ pub enum ListRule {
 // The cursor after a list, or a refusal.
 pub enum ListStep {
     Listed(Cursor),
+    Refused(Refusal),
+}
+
+// The cursor after a list, with H of the row that it makes, or a refusal.
+pub enum CountedStep {
+    Counted(Cursor, usize),
     Refused(Refusal),
 }
 
@@ -48,6 +55,14 @@ pub struct State {
 pub struct Walk {
     pub st: State,
     pub more: usize,
+}
+
+// The same, with the heterozygous samples so far: those that a row had or a list brought, and those that the list took.
+pub struct Tally {
+    pub st: State,
+    pub more: usize,
+    pub had: usize,
+    pub lost: usize,
 }
 
 // The place after an entry's sample or value, or a refusal.

@@ -4,6 +4,7 @@ use mathlib.Core.Path.{_≡_}
 use Prim.Native.Nat.{ℕ, zero, suc, _+_, _/_, _%_}
 use mathlib.Core.List.{List}
 use lib.ListN.{drop, set}
+use Rattle.format.specs.Limits.{most-samples}
 use Rattle.format.specs.Packed.{Bits, one, two}
 use Rattle.head_index.specs.NumbersAt.{digit-at, unused-bits}
 use Rattle.read_packed.specs.declared.Width.{Width}
@@ -12,6 +13,10 @@ use Rattle.read_packed.specs.declared.Width.the-variants.{One, Two}
 abbrev pub bits-of : Width → Bits
 bits-of One = one
 bits-of Two = two
+
+-- an array has at most a number for each sample and one more: the presence bits of a phase track, with its first bit
+abbrev pub most-numbers : ℕ
+most-numbers = suc most-samples
 
 -- number k of an array that starts at v
 unfoldable pub number-in : Bits → List ℕ → ℕ → ℕ → ℕ

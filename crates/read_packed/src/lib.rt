@@ -10,7 +10,7 @@ ghost use lib.ListN.{length, take, drop};
 ghost use Rattle.format.specs.Limits.{most-samples};
 ghost use Rattle.format.specs.Packed.{one, two, more, packed-size};
 ghost use Rattle.head_index.specs.NumbersAt.{digits-at};
-ghost use Rattle.read_packed.specs.Arrays.{bits-of, number-in, unused, store, Spread, put};
+ghost use Rattle.read_packed.specs.Arrays.{bits-of, most-numbers, number-in, unused, store, Spread, put};
 ghost use Rattle.read_packed.specs.Unpacked.{array-at, unpack-left, unpacked-two, unpacked-one, of-pair};
 
 // How many bits a number of an array has.
@@ -27,7 +27,7 @@ pub enum PackedStep {
 
 // How many bytes hold n numbers.
 pub fn packed_size(width: Width, n: usize) -> usize
-    requires { ⌜ n ≤ most-samples ⌝ }
+    requires { ⌜ n ≤ most-numbers ⌝ }
     ensures { λ r. ⌜ r ≡ packed-size (bits-of width) n ⌝ }
 {
     match width {
@@ -46,7 +46,7 @@ pub fn two_bits(s: &[u8], at: usize, k: usize) -> u8
 }
 
 // Number k of the one-bit array that starts at `at`.
-fn one_bit(s: &[u8], at: usize, k: usize) -> u8
+pub fn one_bit(s: &[u8], at: usize, k: usize) -> u8
     requires { ⌜ at + k / 8 < length (now s) ⌝ }
     ensures { λ r. ⌜ r ≡ number-in one (now (s .entry)) at k ⌝ }
 {
@@ -67,7 +67,7 @@ fn number_in(s: &[u8], at: usize, k: usize, width: Width) -> u8
 
 // What is left of the last byte of n numbers.
 pub fn unused_bits(s: &[u8], at: usize, n: usize, width: Width) -> u8
-    requires { ⌜ (at + packed-size (bits-of width) n ≤ length (now s)) × (n ≤ most-samples) ⌝ }
+    requires { ⌜ (at + packed-size (bits-of width) n ≤ length (now s)) × (n ≤ most-numbers) ⌝ }
     ensures { λ r. ⌜ r ≡ unused (bits-of width) (now (s .entry)) at n ⌝ }
 {
     match width {
@@ -88,7 +88,7 @@ pub fn unused_bits(s: &[u8], at: usize, n: usize, width: Width) -> u8
 
 // 01, Replies: "first that the part fits (12), then its rule": 18, "unused record bits set", at "that byte".
 pub fn check_array(s: &[u8], c: Cursor, n: usize, width: Width) -> PackedStep
-    requires { ⌜ (c .at ≤ length (now s)) × (n ≤ most-samples) ⌝ }
+    requires { ⌜ (c .at ≤ length (now s)) × (n ≤ most-numbers) ⌝ }
     ensures { λ r. ⌜ r ≡ array-at (bits-of width) n (now (s .entry)) (c .at) ⌝ }
 {
     let at = c.at;

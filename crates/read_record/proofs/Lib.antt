@@ -4,3 +4,6 @@ pub mod ListLaws
 pub mod CodeLaws
 pub mod PairLaws
 pub mod BodyLaws
+pub mod EndLaws
+pub mod TracksLaws
+pub mod PhasedLaws

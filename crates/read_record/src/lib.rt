@@ -6,18 +6,26 @@ use format::PairFound;
 use format::Reply;
 use format::refusal_at;
 use head_types::kind_of;
+use head_types::type_phased;
 use read_list::ListRule;
 use read_list::ListStep;
 use read_packed::PackedStep;
+use read_phase::check_phases;
+use read_phase::heterozygous_count;
+use read_phase::put_phases;
 ghost use mathlib.Core.Path.{_≡_};
+ghost use mathlib.Core.Bool.{true};
 ghost use Prim.Native.Nat.{_≤_, _<_};
-ghost use lib.ListN.{length};
-ghost use Rattle.format.specs.Body.{kind-of};
+ghost use lib.ListN.{length, take, drop};
+ghost use Rattle.format.specs.Phase.{heterozygous-count, read-phase-track};
+ghost use Rattle.format.specs.Body.{kind-of, type-phased};
 ghost use Rattle.format.specs.Limits.{most-samples};
 ghost use Rattle.format.specs.Track.{array, paired, against-anchor, against-category, kind};
 ghost use Rattle.read_list.specs.Entries.{list-left};
 ghost use Rattle.read_record.specs.Rows.{wiped, stored, pair-categories, tracked, turned};
-ghost use Rattle.read_record.specs.Recorded.{whole-record, record-left, recorded};
+ghost use Rattle.read_list.specs.Checked.{stepped};
+ghost use Rattle.read_record.specs.Recorded.{whole-record, end-checked, tracks-read, record-left, recorded};
+ghost use Rattle.read_record.specs.Recorded.{AfterThere, after-put, phased-left, phased-recorded};
 
 // "Kind 0: the packed array."
 fn read_array(s: &[u8], c: Cursor, n: usize, row: &mut [u8]) -> ListStep
@@ -95,7 +103,7 @@ fn read_sparse(s: &[u8], c: Cursor, n: usize, category: u8, row: &mut [u8]) -> L
 }
 
 // The main track of the kind that has the number; the header lets only these kinds through (8).
-fn read_track(s: &[u8], c: Cursor, n: usize, number: u8, row: &mut [u8]) -> ListStep
+pub fn read_track(s: &[u8], c: Cursor, n: usize, number: u8, row: &mut [u8]) -> ListStep
     requires { ⌜ (c .at ≤ length (now s)) × (n ≤ most-samples) × (n ≤ length (now row)) ⌝ }
     requires { ⌜ (number < 8) × (number ≡ 5 → ⊥) ⌝ }
     ensures { λ r. ⌜ wiped n (list-left r (now (row .exit))) ≡ tracked (kind number) n (now (s .entry)) (c .at) (now (row .entry)) ⌝ }
@@ -127,20 +135,109 @@ pub fn whole_record(got: ListStep, end: usize) -> Reply
     }
 }
 
-// The record of a type, at `c`. The row's first n bytes hold the anchor's categories if it leans; they become the record's own, and
-// after a refusal they are zero.
+// 02, Ask 1: the phase track at `c`, over h heterozygous calls: the cursor past it.
+fn past_phases(s: &[u8], c: Cursor, h: usize) -> ListStep
+    requires { ⌜ (c .at ≤ length (now s)) × (h ≤ most-samples) ⌝ }
+    ensures { λ r. ⌜ r ≡ stepped (length (now (s .entry))) (read-phase-track (length (now (s .entry))) h (drop (c .at) (now (s .entry)))) ⌝ }
+{
+    let got = check_phases(s, c, h);
+    match got {
+        PackedStep::Refused(why) => ListStep::Refused(why),
+        PackedStep::Next(next) => ListStep::Listed(next),
+    }
+}
+
+// The phase track at `c`, over h heterozygous calls, and nothing after it.
+pub fn check_phased_end(s: &[u8], c: Cursor, h: usize) -> Reply
+    requires { ⌜ (c .at ≤ length (now s)) × (h ≤ most-samples) ⌝ }
+    ensures { λ r. ⌜ r ≡ end-checked true h (now (s .entry)) (c .at) ⌝ }
+{
+    whole_record(past_phases(s, c, h), s.len())
+}
+
+// What follows the main track of a record of a type, whose own categories the row's first n bytes hold: its phase track if it has one, and nothing after it.
+fn check_end(s: &[u8], c: Cursor, n: usize, record_type: u8, row: &[u8]) -> Reply
+    requires { ⌜ (c .at ≤ length (now s)) × (n ≤ most-samples) × (n ≤ length (now row)) ⌝ }
+    ensures { λ r. ⌜ r ≡ end-checked (type-phased record_type) (heterozygous-count (take n (now (row .entry)))) (now (s .entry)) (c .at) ⌝ }
+{
+    if type_phased(record_type) {
+        return check_phased_end(s, c, heterozygous_count(row, n));
+    }
+    whole_record(ListStep::Listed(c), s.len())
+}
+
+// The tracks of the record of a type, at `c`: the cursor past the main one. The row's first n bytes hold the anchor's categories if it leans; they become the
+// record's own, and after a refusal they are zero.
+pub fn read_tracks(s: &[u8], c: Cursor, n: usize, record_type: u8, row: &mut [u8]) -> ListStep
+    requires { ⌜ (c .at ≤ length (now s)) × (n ≤ most-samples) × (n ≤ length (now row)) ⌝ }
+    requires { ⌜ (kind-of record_type ≡ 5 → ⊥) ⌝ }
+    ensures { λ r. ⌜ list-left r (now (row .exit)) ≡ tracks-read n record_type (now (s .entry)) (c .at) (now (row .entry)) ⌝ }
+{
+    let got = read_track(s, c, n, kind_of(record_type), row);
+    match got {
+        ListStep::Refused(why) => {
+            base_rows::clear(row, n);
+            ListStep::Refused(why)
+        }
+        ListStep::Listed(next) => {
+            let reply = check_end(s, next, n, record_type, &row[..]);
+            match reply {
+                Reply::Refused(why) => {
+                    base_rows::clear(row, n);
+                    ListStep::Refused(why)
+                }
+                Reply::Accepted => ListStep::Listed(next),
+            }
+        }
+    }
+}
+
+// The record of a type, at `c`, read into the row likewise.
 pub fn read_body(s: &[u8], c: Cursor, n: usize, record_type: u8, row: &mut [u8]) -> Reply
     requires { ⌜ (c .at ≤ length (now s)) × (n ≤ most-samples) × (n ≤ length (now row)) ⌝ }
     requires { ⌜ (kind-of record_type ≡ 5 → ⊥) ⌝ }
     ensures { λ r. ⌜ record-left r (now (row .exit)) ≡ recorded n record_type (now (s .entry)) (c .at) (now (row .entry)) ⌝ }
 {
-    let got = read_track(s, c, n, kind_of(record_type), row);
-    let reply = whole_record(got, s.len());
-    match reply {
-        Reply::Refused(why) => {
-            base_rows::clear(row, n);
-            Reply::Refused(why)
+    let got = read_tracks(s, c, n, record_type, row);
+    match got {
+        ListStep::Refused(why) => Reply::Refused(why),
+        ListStep::Listed(_) => Reply::Accepted,
+    }
+}
+
+// The phases of an accepted record of a type, whose tracks after the main one start at `c`, by its own row. Without a track all are unphased.
+fn put_after(s: &[u8], c: Cursor, n: usize, record_type: u8, row: &[u8], output: &mut [u8])
+    requires { ⌜ AfterThere n record_type (now s) (c .at) (now row) ⌝ }
+    requires { ⌜ (n ≤ length (now row)) × (n ≤ length (now output)) × (n ≤ most-samples) ⌝ }
+    ensures { λ _. ⌜ now (output .exit) ≡ after-put n record_type (now (s .entry)) (c .at) (now (row .entry)) (now (output .entry)) ⌝ }
+{
+    if type_phased(record_type) {
+        put_phases(s, c, n, row, output);
+    } else {
+        base_rows::clear(output, n);
+    }
+}
+
+// The record of a type, at `c`: its categories into the row, as `read_body` has them, and its phases into the output.
+pub fn read_phased(
+    s: &[u8],
+    c: Cursor,
+    n: usize,
+    record_type: u8,
+    row: &mut [u8],
+    output: &mut [u8],
+) -> Reply
+    requires { ⌜ (c .at ≤ length (now s)) × (n ≤ most-samples) × (n ≤ length (now row)) ⌝ }
+    requires { ⌜ (kind-of record_type ≡ 5 → ⊥) × (n ≤ length (now output)) ⌝ }
+    ensures { λ r. ⌜ phased-left r (now (row .exit)) (now (output .exit))
+        ≡ phased-recorded n record_type (now (s .entry)) (c .at) (now (row .entry)) (now (output .entry)) ⌝ }
+{
+    let got = read_tracks(s, c, n, record_type, row);
+    match got {
+        ListStep::Refused(why) => Reply::Refused(why),
+        ListStep::Listed(next) => {
+            put_after(s, next, n, record_type, &row[..], output);
+            Reply::Accepted
         }
-        Reply::Accepted => Reply::Accepted,
     }
 }

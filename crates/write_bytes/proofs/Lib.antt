@@ -1,3 +1,4 @@
 pub mod NumberLaws
 pub mod ArrayLaws
 pub mod WrittenLaws
+pub mod InTurnLaws

@@ -1,6 +1,7 @@
 // Bytes written into a lent output: varints, numbers of so many bytes, packed arrays.
 ghost use mathlib.Core.Path.{_≡_};
 ghost use Prim.Native.Nat.{suc, _+_, _≤_, _<_, _^_};
+ghost use mathlib.Core.List.{[], _∷_};
 ghost use lib.ListN.{length, getD, drop};
 ghost use Rattle.format.specs.Base.{Below};
 ghost use Rattle.format.specs.Varint.{varint-bytes};
@@ -9,11 +10,19 @@ ghost use Rattle.format.specs.Packed.{limit, more, byte-of, packed-size};
 ghost use Rattle.format.specs.Limits.{most-samples};
 ghost use Rattle.write_bytes.specs.Written.{Wrote};
 ghost use Rattle.write_bytes.specs.Arrays.{width, numbers, array-bytes, array-byte};
+ghost use Rattle.write_bytes.specs.InTurn.{last-byte, PackingFits, PackedOn};
 
 // 01, Categories and kinds: the two arrays of a record. Kind 0, "the packed array"; kind 1, "a bit per sample (set: the higher category of the pair)".
 pub enum Array {
     Categories,
     Bits { higher: u8 },
+}
+
+// Where the packing of numbers one after another is: the byte at hand, the weight of the next number in it, and its place.
+pub struct Packing {
+    pub scale: usize,
+    pub byte: usize,
+    pub at: usize,
 }
 
 // How many bytes a number's varint has.
@@ -175,4 +184,37 @@ pub fn put_array(array: Array, categories: &[u8], output: &mut [u8], at: usize) 
         Array::Categories => put_bytes(Array::Categories, categories, output, at),
         Array::Bits { higher } => put_bytes(Array::Bits { higher }, categories, output, at),
     }
+}
+
+// Packs one more number, below `limit`: the byte at hand is stored once it is full.
+pub fn put_packed(limit: usize, number: usize, packing: Packing, output: &mut [u8]) -> Packing
+    requires { ⌜ (number < limit) × PackingFits limit (packing .scale) (packing .byte) × (packing .at < length (now output)) ⌝ }
+    ensures { λ r. ⌜ PackedOn limit (now (output .entry)) packing (number ∷ []) r (now (output .exit)) ⌝ }
+{
+    let at = packing.at;
+    let scale = packing.scale * limit;
+    let byte = packing.byte + number * packing.scale;
+    if scale < 256 {
+        return Packing { scale, byte, at };
+    }
+    output[at] = byte as u8;
+    Packing {
+        scale: 1,
+        byte: 0,
+        at: at + 1,
+    }
+}
+
+// Stores the byte at hand, if it has a number, and gives the place after it.
+pub fn end_packed(packing: Packing, output: &mut [u8]) -> usize
+    requires { ⌜ (packing .byte < 256) × (packing .at + length (last-byte (packing .scale) (packing .byte)) ≤ length (now output)) ⌝ }
+    ensures { λ r. ⌜ Wrote (now (output .entry)) (packing .at) (last-byte (packing .scale) (packing .byte)) r (now (output .exit)) ⌝ }
+{
+    let at = packing.at;
+    let byte = packing.byte;
+    if packing.scale == 1 {
+        return at;
+    }
+    output[at] = byte as u8;
+    at + 1
 }

@@ -30,7 +30,6 @@ use Rattle.write_parts.specs.declared.Part.the-variants.{Heads, Sizes, Steps}
 use Rattle.write_list.specs.Values.{values-bytes}
 use Rattle.write_list.specs.Sizes.{Measured, SizeOf}
 use Rattle.write_list.specs.declared.Counted.{Counted}
-use Rattle.write_list.proofs.ValueLaws.{values-packed}
 
 -- ---- each part
 
@@ -77,7 +76,7 @@ module _ (width : ℕ) (es : List Entry) where
 
   list-is : varint-bytes (length es) ++ (hs ++ (zs ++ (vs ++ ss))) ≡ list-bytes width es
   unfolding list-parts
-  list-is = rw (heads-part width 0 0 0 0 es, sizes-part width es, values-packed (values es), steps-part width 0 0 0 0 es)
+  list-is = rw (heads-part width 0 0 0 0 es, sizes-part width es, steps-part width 0 0 0 0 es)
 
 module _ (width : ℕ) (es : List Entry) (to : List ℕ) (at count : ℕ) (k : count ≡ length es) (fit : at + length (list-bytes width es) ≤ length to) where
   fit-parts : at + length (varint-bytes count ++ (hs width es ++ (zs width es ++ (vs width es ++ ss width es)))) ≤ length to

@@ -1,6 +1,9 @@
 // A difference list measured and written: its count, the parts that are written entry by entry, and its values.
 use base_list::groups;
 use base_list::number_width;
+use write_bytes::Packing;
+use write_bytes::end_packed;
+use write_bytes::put_packed;
 use write_bytes::put_varint;
 use write_bytes::varint_size;
 use write_parts::Base;
@@ -16,18 +19,12 @@ ghost use lib.ListN.{length};
 ghost use Rattle.format.specs.Limits.{most-samples};
 ghost use Rattle.format.specs.Difflist.{number-width, list-bytes};
 ghost use Rattle.write_bytes.specs.Written.{Wrote};
+ghost use Rattle.write_bytes.specs.InTurn.{PackingFits, PackedOn};
 ghost use Rattle.write_parts.specs.Rows.{listed-entries, RowsFit};
 ghost use Rattle.write_parts.specs.Parts.{entry-bytes, GroupFits};
 ghost use Rattle.write_parts.specs.declared.Part.the-variants.{Steps};
-ghost use Rattle.write_list.specs.Values.{PackingFits, value-bytes, Stored, values-bytes};
+ghost use Rattle.write_list.specs.Values.{values-bytes, sample-values};
 ghost use Rattle.write_list.specs.Sizes.{Counts, Measured, SizeOf};
-
-// Where the packing of the values is: the byte at hand, the weight of the next value in it, and its place.
-pub struct Packing {
-    pub scale: usize,
-    pub byte: usize,
-    pub at: usize,
-}
 
 // How many entries there are so far, and how many bytes their steps have.
 pub struct Counted {
@@ -44,31 +41,14 @@ pub struct ListSize {
 
 // A sample's value, if the list has it.
 fn write_value(s: Sample, packing: Packing, output: &mut [u8]) -> Packing
-    requires { ⌜ s .value < 4 ⌝ }
-    requires { ⌜ PackingFits (packing .scale) (packing .byte)
-        × (packing .at + length (value-bytes (s .base) (s .value) (packing .scale) (packing .byte)) ≤ length (now output)) ⌝ }
-    ensures { λ r. ⌜ Stored (now (output .entry)) (packing .at) (packing .scale) (packing .byte) (s .base) (s .value) r (now (output .exit)) ⌝ }
+    requires { ⌜ (s .value < 4) × PackingFits 4 (packing .scale) (packing .byte) ⌝ }
+    requires { ⌜ packing .at + length (sample-values (s .base) (s .value)) ≤ length (now output) ⌝ }
+    ensures { λ r. ⌜ PackedOn 4 (now (output .entry)) packing (sample-values (s .base) (s .value)) r (now (output .exit)) ⌝ }
 {
-    let scale = packing.scale;
-    let byte = packing.byte;
-    let at = packing.at;
     if s.value == s.base {
         return packing;
     }
-    let value = s.value as usize;
-    if scale == 64 {
-        output[at] = (byte + value * 64) as u8;
-        return Packing {
-            scale: 1,
-            byte: 0,
-            at: at + 1,
-        };
-    }
-    Packing {
-        scale: scale * 4,
-        byte: byte + value * scale,
-        at,
-    }
+    put_packed(4, s.value as usize, packing, output)
 }
 
 // 01, Difference lists: "ceil(L/4) bytes of 2-bit values".
@@ -89,13 +69,7 @@ fn put_values(base: Base, categories: &[u8], anchor: &[u8], output: &mut [u8], a
         packing = write_value(s, packing, output);
         i = i + 1;
     }
-    let place = packing.at;
-    let byte = packing.byte;
-    if packing.scale == 1 {
-        return place;
-    }
-    output[place] = byte as u8;
-    place + 1
+    end_packed(packing, output)
 }
 
 // How many bytes of steps an entry has.

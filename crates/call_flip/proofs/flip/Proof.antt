@@ -1,7 +1,7 @@
 -- `call_flip::flip` meets its contract.
 -- Assumes nothing.
 use borrow.Author.Needs.{needs}
-use Rattle.call_flip.proofs.FlipLaws.{flip-laws, whole-accepted, flip-records-refused}
+use Rattle.call_flip.proofs.FlipLaws.{flip-laws, flip-ready, flip-records-refused}
 use Rattle.call_flip.proofs.flip.Statement.{statement}
 use Rattle.call_flip.proofs.flip.Tie as tie
 
@@ -26,7 +26,7 @@ flip-spec =
     (λ c κs.
     let a : tie.After-check-records = search in
     let o : tie.After-open = search in
-    whole-accepted _ _ _ _ (o .open .ensures) (search needs) _ _ _ (a .check-records .ensures) (search needs))
+    flip-ready _ _ _ _ (o .open .ensures) (search needs) _ (search needs) _ _ (a .check-records .ensures) (search needs) (search needs))
     (λ c. search (flip-laws, needs))
     (λ c. search (flip-laws, needs))
     (λ c. search (flip-laws, needs))

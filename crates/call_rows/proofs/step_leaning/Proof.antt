@@ -10,8 +10,6 @@ step-leaning-spec =
     tie.close
     (tie.spec
     (λ c κs. search (step-laws, needs))
-    (λ c. search (step-laws, needs))
-    (λ c. search (step-laws, needs))
     (λ c κs. search (step-laws, needs))
     (λ c. search (step-laws, needs))
     (λ c. search (step-laws, needs))
@@ -26,8 +24,8 @@ step-leaning-spec =
     let read : tie.After-read-body = search in
     let copied : tie.After-copy = search in
     let told : tie.After-enum-told = search in
-    let checked : tie.After-check-body = search in
+    let checked : tie.After-leaning-checked = search in
     let next : tie.After-past = search in
     let s : tie.Start = search in
-    leaning-accepted _ _ _ _ _ (s .pre) _ (next .past .ensures) (search needs) _ (checked .check-body .ensures) _ _ _ (told .enum-told .given .1)
+    leaning-accepted _ _ _ _ _ (s .pre .0) _ (next .past .ensures) _ (checked .leaning-checked .ensures) _ _ _ (told .enum-told .given .1)
     (copied .copy .ensures) (read .read-body .ensures)))

@@ -1,4 +1,4 @@
--- `call_write::check_record` meets its contract: one law for each answer, in document 01's order.
+-- `call_write::check_record` meets its contract: the refusal of the checks before, or the categories' own check.
 -- Assumes nothing.
 use borrow.Author.Needs.{needs}
 use Rattle.call_write.proofs.CheckLaws.{check-laws}
@@ -11,14 +11,7 @@ check-record-spec =
     (tie.spec
     (λ c κs. search (check-laws, needs))
     (λ c. search (check-laws, needs))
-    (λ c κs. search (check-laws, needs))
     (λ c. search (check-laws, needs))
     (λ c κs. search (check-laws, needs))
-    (λ c κs. search (check-laws, needs))
-    (λ c κs. search (check-laws, needs))
     (λ c. search (check-laws, needs))
-    (λ c κs. search (check-laws, needs))
-    (λ c κs. search (check-laws, needs))
-    (λ c. search (check-laws, needs))
-    (λ c κs. search (check-laws, needs))
     (λ c. search (check-laws, needs)))

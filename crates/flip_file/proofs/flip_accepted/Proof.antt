@@ -13,6 +13,4 @@ flip-accepted-spec =
     (λ c κs. search (accepted-laws, needs))
     (λ c. search (accepted-laws, needs))
     (λ c. search (accepted-laws, needs))
-    (λ c κs. search (accepted-laws, needs))
-    (λ c. search (accepted-laws, needs))
     (λ c. search (accepted-laws, needs)))

@@ -9,6 +9,7 @@ pub type-allowed-spec : {M : Type 1} → statement M
 type-allowed-spec =
     tie.close
     (tie.spec
+    (λ c κs. search needs)
     (λ c. search (allowed-laws, needs))
     (λ c κs. search needs)
     (λ c. search (allowed-laws, needs))

@@ -1,7 +1,7 @@
 -- `head_types::type_leans` meets its contract.
 -- Assumes nothing.
 use borrow.Author.Needs.{needs}
-use Rattle.head_types.proofs.Types.{allowed-laws}
+use Rattle.head_types.proofs.Types.{lean-laws}
 use Rattle.head_types.proofs.type_leans.Statement.{statement}
 use Rattle.head_types.proofs.type_leans.Tie as tie
 
@@ -10,6 +10,6 @@ type-leans-spec =
     tie.close
     (tie.spec
     (λ c κs. search needs)
-    (λ c. search (allowed-laws, needs))
-    (λ c. search (allowed-laws, needs))
-    (λ c. search (allowed-laws, needs)))
+    (λ c. search (lean-laws, needs))
+    (λ c. search (lean-laws, needs))
+    (λ c. search (lean-laws, needs)))

@@ -1,7 +1,7 @@
 -- `read_record::read_body` meets its contract.
 -- Assumes nothing.
 use borrow.Author.Needs.{needs}
-use Rattle.read_record.proofs.BodyLaws.{body-laws}
+use Rattle.read_record.proofs.TracksLaws.{body-laws}
 use Rattle.read_record.proofs.read_body.Statement.{statement}
 use Rattle.read_record.proofs.read_body.Tie as tie
 
@@ -10,10 +10,7 @@ read-body-spec =
     tie.close
     (tie.spec
     (λ c κs. search (body-laws, needs))
-    (λ c κs. search (body-laws, needs))
-    (λ c κs. search (body-laws, needs))
     (λ c. search (body-laws, needs))
-    (λ c κs. search (body-laws, needs))
     (λ c. search (body-laws, needs))
     (λ c. search (body-laws, needs))
     (λ c. search (body-laws, needs))

@@ -1,4 +1,4 @@
--- `write_list::write_value` meets its contract: nothing where the value is the base's; a byte where the value is its last.
+-- `write_list::write_value` meets its contract: nothing where the value is the base's; else one more number.
 -- Assumes nothing.
 use borrow.Author.Needs.{needs}
 use Rattle.write_list.proofs.ValueLaws.{value-laws}
@@ -11,14 +11,6 @@ write-value-spec =
     (tie.spec
     (λ c. search (value-laws, needs))
     (λ c. search (value-laws, needs))
-    (λ c. search (value-laws, needs))
-    (λ c. search (value-laws, needs))
-    (λ c. search (value-laws, needs))
-    (λ c. search (value-laws, needs))
-    (λ c. search (value-laws, needs))
-    (λ c. search (value-laws, needs))
-    (λ c. search (value-laws, needs))
-    (λ c. search (value-laws, needs))
-    (λ c. search (value-laws, needs))
+    (λ c κs. search (value-laws, needs))
     (λ c. search (value-laws, needs))
     (λ c. search (value-laws, needs)))

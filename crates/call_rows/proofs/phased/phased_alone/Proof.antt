@@ -1,0 +1,26 @@
+-- `call_rows::phased::phased_alone` meets its contract.
+-- Assumes nothing.
+use borrow.Author.Needs.{needs}
+use Rattle.call_rows.proofs.PhasedLaws.{phased-step-laws}
+use Rattle.call_rows.proofs.phased.phased_alone.Statement.{statement}
+use Rattle.call_rows.proofs.phased.phased_alone.Tie as tie
+
+pub phased-alone-spec : {M : Type 1} → statement M
+phased-alone-spec =
+    tie.close
+    (tie.spec
+    (λ c. search (phased-step-laws, needs))
+    (λ c κs. search (phased-step-laws, needs))
+    (λ c. search (phased-step-laws, needs))
+    (λ c κs. search (phased-step-laws, needs))
+    (λ c. search (phased-step-laws, needs))
+    (λ c κs. search (phased-step-laws, needs))
+    (λ c κs. search (phased-step-laws, needs))
+    (λ c κs. search (phased-step-laws, needs))
+    (λ c. search (phased-step-laws, needs))
+    (λ c. search (phased-step-laws, needs))
+    (λ c. search (phased-step-laws, needs))
+    (λ c. search (phased-step-laws, needs))
+    (λ c. search (phased-step-laws, needs))
+    (λ c. search (phased-step-laws, needs))
+    (λ c. search (phased-step-laws, needs)))

@@ -1,0 +1,4 @@
+pub mod Turned
+pub mod OneRecord
+pub mod Accepted
+pub mod AllRecords

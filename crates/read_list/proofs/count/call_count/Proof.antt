@@ -1,0 +1,14 @@
+-- `read_list::count::call_count` meets its contract.
+-- Assumes nothing.
+use borrow.Author.Needs.{needs}
+use Rattle.read_list.proofs.CountLaws.{call-laws}
+use Rattle.read_list.proofs.count.call_count.Statement.{statement}
+use Rattle.read_list.proofs.count.call_count.Tie as tie
+
+pub call-count-spec : {M : Type 1} → statement M
+call-count-spec =
+    tie.close
+    (tie.spec
+    (λ c κs. search (call-laws, needs))
+    (λ c. search (call-laws, needs))
+    (λ c. search (call-laws, needs)))

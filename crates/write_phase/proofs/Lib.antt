@@ -1,0 +1,4 @@
+pub mod AllowedLaws
+pub mod CallLaws
+pub mod PartLaws
+pub mod TrackLaws
