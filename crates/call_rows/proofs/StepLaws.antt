@@ -19,7 +19,6 @@ use Rattle.format.specs.Variant.{file-variant}
 use Rattle.head_places.specs.declared.Place.{Place}
 use Rattle.read_record.specs.Recorded.{replied, record-left, record-replied, recorded}
 use Rattle.read_check.specs.Checked.{body-checked}
-use Rattle.read_check.proofs.NextLaws.{row-there}
 use Rattle.call_rows.specs.declared.Rows.{Rows}
 use Rattle.call_rows.specs.Calls.{Left, row-left, past, answered, alone, leaning, read-at, leaning-checked, over-nothing, over-anchor, RowReady}
 
@@ -129,6 +128,6 @@ pub past-is : (rows : Rows) (end : ℕ) (why : Refusal)
     → record { fields = rows .fields; variant = file-variant (rows .variant .0 + 1); start = end; refusal = why } ≡ past rows end why
 past-is rows end why = rw add-one
 
-pub ruleset checked-laws = (checked-anchor, checked-body, leans-there, row-there, cut-end, cut-holds)
+pub ruleset checked-laws = (checked-anchor, checked-body, leans-there, cut-end, cut-holds)
 
 pub ruleset step-laws = (alone-refused, alone-accepted, leaning-refused, leaning-accepted, cut-end, cut-holds, buffer-room)

@@ -28,14 +28,14 @@ use Rattle.format.proofs.FlipTypeLaws.{track-kind-not-5}
 use Rattle.format.proofs.PhaseFlipLaws.{heterozygous-exchange}
 use Rattle.base_cursor.specs.declared.Cursor.{Cursor}
 use Rattle.base_cursor.specs.Steps.{before}
-use Rattle.read_list.specs.declared.CountedStep.{CountedStep}
-use Rattle.read_list.specs.declared.CountedStep.the-variants as counts
+use Rattle.read_count.specs.declared.CountedStep.{CountedStep}
+use Rattle.read_count.specs.declared.CountedStep.the-variants as counts
 use Rattle.read_list.specs.declared.ListRule.the-variants.{OffRow}
 use Rattle.read_list.specs.declared.ListStep.{ListStep}
 use Rattle.read_list.specs.declared.ListStep.the-variants as list
 use Rattle.read_list.specs.Entries.{ListLeft, list-left}
 use Rattle.read_list.specs.Listed.{list-at}
-use Rattle.read_list.specs.Counted.{count-replied, counted}
+use Rattle.read_count.specs.Counted.{count-replied, counted}
 use Rattle.read_record.specs.Rows.{wiped, stored, kind-categories, tracked}
 use Rattle.head_places.specs.declared.Place.{Place}
 use Rattle.flip_phase.specs.declared.Main.{Main}
@@ -75,7 +75,7 @@ module _ {n : ℕ} {p : Place} {row file : List ℕ} (w : RecordThere n p row fi
       ∙ list-read-back (rule n (off-anchor (take n row))) (number-width n) (length cut) (x .entries) left few (wide-enough n (w .few))
       (subst (Fits n (take n row)) (x .is) (w .fits .0))
 
-  counted-there : (x : Leaner) → counted n cut (p .start) row ≡ counts.Counted (before (length cut) left) (heterozygous-count (apply (x .entries) (take n row)))
+  counted-there : (x : Leaner) → counted OffRow (take n row) n cut (p .start) ≡ counts.Counted (before (length cut) left) (heterozygous-count (apply (x .entries) (take n row)))
   unfolding counted
   counted-there x = ap (count-replied (length cut) (take n row)) (list-there x)
 
@@ -98,7 +98,7 @@ is-counted (counts.Counted c h) = true
 is-counted (counts.Refused why) = false
 
 module _ (n : ℕ) (p : Place) (row file : List ℕ) (e : type-leans (p .record_type) ≡ true) (got : CountedStep)
-    (d : got ≡ counted n (take (p .end) file) (p .start) row) where
+    (d : got ≡ counted OffRow (take n row) n (take (p .end) file) (p .start)) where
   pub counted-main : (next : Cursor) (h : ℕ) → got ≡ counts.Counted next h → (main : Main) → main ≡ record { end = next; count = h }
       → MainPassed n p row file main
   counted-main next h q main m = record {

@@ -23,9 +23,9 @@ use head_records::type_of;
 use head_types::kind_of;
 use head_types::type_leans;
 use head_types::type_phased;
-use read_list::CountedStep;
+use read_count::CountedStep;
+use read_count::list::count_leaning;
 use read_list::ListStep;
-use read_list::count::count_list;
 use read_phase::first_count;
 use read_phase::heterozygous_count;
 use read_phase::phased_count;
@@ -59,7 +59,7 @@ fn pass_leaning(file: &[u8], p: Place, n: usize, row: &[u8], h: usize) -> Main
 {
     let end = p.end;
     let here = Cursor { at: p.start };
-    let got = count_list(&file[..end], n, here, row, h);
+    let got = count_leaning(&file[..end], n, here, row, h);
     match got {
         CountedStep::Refused(_) => Main {
             end: here,

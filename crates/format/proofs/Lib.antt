@@ -1,3 +1,4 @@
+pub mod AllBelow
 pub mod Rules
 pub mod VarintLaws
 pub mod NumbersLaws

@@ -10,7 +10,7 @@ use mir.Syntax.{w8}
 use mir.Val.{Fits as Bounded}
 use Rattle.format.specs.Base.{Out, ok, refused, bind}
 use Rattle.format.specs.Track.{kind, leans, Track, read-track}
-use Rattle.format.specs.Body.{kind-of, type-leans, type-phased, track-heterozygous, read-after, read-body}
+use Rattle.format.specs.Body.{kind-of, type-phased, track-heterozygous, read-after, read-body}
 use Rattle.format.specs.declared.Reply.{Reply}
 use Rattle.format.proofs.Rules.{Holds, below-drop}
 use Rattle.format.proofs.TrackLaws.{IsTrack, track-as-written}
@@ -20,11 +20,11 @@ use Rattle.read_list.specs.declared.ListStep.{ListStep}
 use Rattle.read_record.specs.Recorded.{replied, whole-record}
 use Rattle.read_record.proofs.EndLaws.{plain-ends, after-ends}
 use Rattle.read_check.specs.Checked.{track-checked, body-checked}
-use Rattle.read_check.proofs.PhasedLaws.{phased-record, phased-row}
+use Rattle.read_check.proofs.PhasedLaws.{phased-record}
 
--- a kind leans where its type does
-pub kind-row : (n type number : ℕ) (row : List ℕ) → number ≡ kind-of type → (type-leans type ≡ true → n ≤ length row) → leans number ≡ true → n ≤ length row
-kind-row n type number row is h t = h (rw is at t)
+-- a row that is there for any kind is there for one that leans
+pub kind-row : (n number : ℕ) (row : List ℕ) → n ≤ length row → leans number ≡ true → n ≤ length row
+kind-row n number row h t = h
 
 module _ (l : List ℕ) (start n type : ℕ) (row : List ℕ) (known : (i : ℕ) → Bounded w8 (getD l i 0)) (inside : start ≤ length l)
     (p : Bool) (e : p ≡ type-phased type) (t : p ≡ false) where
@@ -46,4 +46,4 @@ module _ (l : List ℕ) (start n type : ℕ) (row : List ℕ) (known : (i : ℕ)
       ∙ main-only (read-track (length l) n (take n row) (kind-of type) (drop start l))
       (track-as-written (length l) n (take n row) (kind-of type) (drop start l) (below-drop 256 start l (bytes-of l (λ i. known i .fits))))
 
-pub ruleset body-laws = (kind-row, phased-row, phased-record, record-checked)
+pub ruleset body-laws = (kind-row, phased-record, record-checked)

@@ -26,7 +26,6 @@ use Rattle.base_cursor.specs.declared.ByteStep.the-variants.{Byte, Refused as N
 use Rattle.read_packed.specs.Unpacked.{array-at}
 use Rattle.read_packed.specs.declared.PackedStep.{PackedStep}
 use Rattle.read_packed.specs.declared.PackedStep.the-variants.{Next, Refused as NotPacked}
-use Rattle.read_packed.proofs.CheckLaws.{Accepted, was-accepted, was-refused}
 use Rattle.read_list.specs.Checked.{stepped, checked}
 use Rattle.read_list.specs.declared.ListRule.the-variants.{OffPair, OffRow}
 use Rattle.read_list.specs.declared.ListStep.{ListStep}
@@ -36,22 +35,8 @@ use Rattle.read_record.proofs.RuleLaws.{list-same}
 use Rattle.read_record.proofs.CodeLaws.{code-inside, UnderCode, code-missing, code-unknown, code-known}
 use Rattle.read_record.proofs.BodyLaws.{leaning-kind, sparse-kind}
 use Rattle.read_record.proofs.EndLaws.{stepped-map}
+use Rattle.read_count.proofs.TrackLaws.{not-packed, accepted, next-inside, next-place, off-one, leaner-row}
 use Rattle.read_check.specs.Checked.{track-checked, bits-checked}
-
--- what an array was found to be
-module _ (bits : Bits) (l : List ℕ) (at n : ℕ) (got : PackedStep) (told : got ≡ array-at bits n l at) where
-  not-packed : (why : Refusal) → got ≡ NotPacked why → read-packed (length l) bits n (drop at l) ≡ refused why
-  not-packed why q = was-refused bits l at n why (cc)
-
-  module _ (next : Cursor) (q : got ≡ Next next) (known : (i : ℕ) → Bounded w8 (getD l i 0)) (h : at ≤ length l) where
-    accepted : Accepted bits l at n next
-    accepted = was-accepted bits l at n next (λ i. known i .fits) h (cc)
-
-    pub next-inside : next .at ≤ length l
-    next-inside = rw (accepted .ends) (accepted .inside)
-
-    place : length l - length (drop (next .at) l) ≡ next .at
-    place = omega (arith, length-drop (next .at) l, next-inside)
 
 -- ---- kind 0
 
@@ -63,7 +48,7 @@ module _ (l : List ℕ) (start n : ℕ) (got : PackedStep) (told : got ≡ array
   pub plain-next : (next : Cursor) → got ≡ Next next → ((i : ℕ) → Bounded w8 (getD l i 0)) → start ≤ length l
       → Listed next ≡ track-checked array n l start []
   unfolding track-checked read-kind
-  plain-next next q known h = rw (accepted two l start n got told next q known h .reads, place two l start n got told next q known h)
+  plain-next next q known h = rw (accepted two l start n got told next q known h .reads, next-place two l start n got told next q known h)
 
 -- ---- kind 1, after its pair code
 
@@ -108,18 +93,6 @@ module _ (l : List ℕ) (start n : ℕ) (got : ByteStep) (told : got ≡ byte-at
 pub ruleset pair-laws = (code-inside, no-code, unknown-code, known-code)
 
 -- ---- kinds by number
-
--- the samples outside a category: off both of two that are the same
-off-one : (category sample value : ℕ) → off-both category category sample value ≡ off-category category sample value
-off-one category sample value = either (eqb value category)
-  where
-    either : (b : Bool) → not (b || b) ≡ not b
-    either true = refl
-    either false = refl
-
--- a kind that leans has a row
-pub leaner-row : (n number : ℕ) (row : List ℕ) → (leans number ≡ true → n ≤ length row) → (number ≡ 0 → ⊥) → (number ≡ 1 → ⊥) → number < 4 → n ≤ length row
-leaner-row n number row h p q g = h (ap leans-kind (leaning-kind number p q g))
 
 module _ (l : List ℕ) (start n number : ℕ) (row : List ℕ) (r : ListStep) where
   pub of-plain : number ≡ 0 → r ≡ track-checked array n l start [] → r ≡ track-checked (kind number) n l start row

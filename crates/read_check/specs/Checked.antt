@@ -12,10 +12,10 @@ use Rattle.format.specs.Body.{read-body}
 use Rattle.format.specs.declared.Reply.{Reply}
 use Rattle.format.specs.declared.Reply.the-variants.{Refused}
 use Rattle.read_list.specs.Checked.{stepped}
-use Rattle.read_list.specs.Counted.{counted}
-use Rattle.read_list.specs.declared.CountedStep.{CountedStep}
-use Rattle.read_list.specs.declared.CountedStep.the-variants as count
 use Rattle.read_list.specs.declared.ListStep.{ListStep}
+use Rattle.read_count.specs.Tracks.{track-counted}
+use Rattle.read_count.specs.declared.CountedStep.{CountedStep}
+use Rattle.read_count.specs.declared.CountedStep.the-variants as count
 use Rattle.read_record.specs.Rows.{off-both}
 use Rattle.read_record.specs.Recorded.{replied, end-checked}
 
@@ -29,13 +29,13 @@ bits-checked lower higher n l at =
     stepped (length l)
     (bind (read-packed (length l) one n (drop at l)) (λ bits left. read-list (rule n (off-both lower higher)) (number-width n) (length l) left))
 
--- a record that leans, with a phase track. 02, Ask 1: "H is the number of samples in category 1": of the row that its list makes
+-- a record with a phase track. 02, Ask 1: "H is the number of samples in category 1": of its own row
 abbrev pub counted-replied : List ℕ → CountedStep → Reply
 counted-replied l (count.Refused why) = Refused why
 counted-replied l (count.Counted next H) = end-checked true H l (next .at)
 
-unfoldable pub phased-checked : ℕ → List ℕ → ℕ → List ℕ → Reply
-phased-checked n l start row = counted-replied l (counted n l start row)
+unfoldable pub phased-checked : Kind → ℕ → List ℕ → ℕ → List ℕ → Reply
+phased-checked k n l start row = counted-replied l (track-counted k n l start row)
 
 -- the record of a type
 unfoldable pub body-checked : ℕ → ℕ → List ℕ → ℕ → List ℕ → Reply

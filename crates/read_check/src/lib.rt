@@ -1,5 +1,5 @@
 // A record only checked: nothing is read into a row, so nothing is left of one after a refusal. One that leans looks at the row that holds its anchor's
-// categories; another needs no row. And the next record of a check of all. Every slice `s` is the file cut where the record ends, so that its length is the
+// categories; another looks at no row. And the next record of a check of all. Every slice `s` is the file cut where the record ends, so that its length is the
 // record's end and a place in it is a place in the file.
 use base_cursor::ByteStep;
 use base_cursor::Cursor;
@@ -9,15 +9,14 @@ use format::refusal_at;
 use head_types::kind_of;
 use head_types::type_leans;
 use head_types::type_phased;
-use read_list::CountedStep;
+use read_count::CountedStep;
+use read_count::count_track;
 use read_list::ListRule;
 use read_list::ListStep;
 use read_list::check::check_list;
-use read_list::count::count_list;
 use read_packed::PackedStep;
 use read_packed::Width;
 use read_packed::check_array;
-use read_phase::heterozygous_count;
 use read_record::check_phased_end;
 use read_record::read_body;
 use read_record::whole_record;
@@ -26,7 +25,7 @@ ghost use mathlib.Core.Bool.{true};
 ghost use mathlib.Core.List.{[]};
 ghost use Prim.Native.Nat.{_≤_, _<_};
 ghost use lib.ListN.{length};
-ghost use Rattle.format.specs.Body.{kind-of, type-leans, type-phased};
+ghost use Rattle.format.specs.Body.{kind-of};
 ghost use Rattle.format.specs.Limits.{most-samples};
 ghost use Rattle.format.specs.Track.{array, paired, kind, leans};
 ghost use Rattle.read_record.specs.Recorded.{record-left};
@@ -97,40 +96,38 @@ pub fn check_track(s: &[u8], c: Cursor, n: usize, number: u8, row: &[u8]) -> Lis
     check_list(s, n, ListRule::OffPair(category, category), c, row)
 }
 
-// A record that leans, with a phase track after its list: H is counted as the list is checked, so no row is made.
-fn check_phased(s: &[u8], c: Cursor, n: usize, row: &[u8]) -> Reply
+// A record with a phase track: H is counted as its main track of the kind that has the number is checked, so no row is made.
+fn check_phased(s: &[u8], c: Cursor, n: usize, number: u8, row: &[u8]) -> Reply
     requires { ⌜ (c .at ≤ length (now s)) × (n ≤ most-samples) × (n ≤ length (now row)) ⌝ }
-    ensures { λ r. ⌜ r ≡ phased-checked n (now (s .entry)) (c .at) (now (row .entry)) ⌝ }
+    requires { ⌜ (number < 8) × (number ≡ 5 → ⊥) ⌝ }
+    ensures { λ r. ⌜ r ≡ phased-checked (kind number) n (now (s .entry)) (c .at) (now (row .entry)) ⌝ }
 {
-    let counted = count_list(s, n, c, row, heterozygous_count(row, n));
+    let counted = count_track(s, c, n, number, row);
     match counted {
         CountedStep::Refused(why) => Reply::Refused(why),
         CountedStep::Counted(next, h) => check_phased_end(s, next, h),
     }
 }
 
-// The record of a type, at `c`. One with a phase track leans: another's H would want a row.
+// The record of a type, at `c`.
 pub fn check_body(s: &[u8], c: Cursor, n: usize, record_type: u8, row: &[u8]) -> Reply
-    requires { ⌜ (c .at ≤ length (now s)) × (n ≤ most-samples) × (kind-of record_type ≡ 5 → ⊥) ⌝ }
-    requires { ⌜ (type-phased record_type ≡ true → type-leans record_type ≡ true) × (type-leans record_type ≡ true → n ≤ length (now row)) ⌝ }
+    requires { ⌜ (c .at ≤ length (now s)) × (n ≤ most-samples) × (n ≤ length (now row)) ⌝ }
+    requires { ⌜ (kind-of record_type ≡ 5 → ⊥) ⌝ }
     ensures { λ r. ⌜ r ≡ body-checked n record_type (now (s .entry)) (c .at) (now (row .entry)) ⌝ }
 {
+    let number = kind_of(record_type);
     if type_phased(record_type) {
-        return check_phased(s, c, n, row);
+        return check_phased(s, c, n, number, row);
     }
-    whole_record(check_track(s, c, n, kind_of(record_type), row), s.len())
+    whole_record(check_track(s, c, n, number, row), s.len())
 }
 
-// Whether a record's own row is made, in a check of all: one that leans on none is read into the row for its own phase track, or for the record after it
-// if that leans.
+// Whether a record's own row is made, in a check of all: one that leans on none is read into the row if the record after it leans.
 fn row_made(record_type: u8, after: u8) -> bool
     ensures { λ r. ⌜ r ≡ row-made record_type after ⌝ }
 {
     if type_leans(record_type) {
         return false;
-    }
-    if type_phased(record_type) {
-        return true;
     }
     type_leans(after)
 }

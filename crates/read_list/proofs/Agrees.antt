@@ -44,7 +44,7 @@ within u w end n bs row e h (ok es left) k = rw (apply-within u es n row e h (k 
 within u w end n bs row e h (refused why) k = refl
 
 -- inside a list the default does not matter
-getD-any : (l : List ℕ) (j : ℕ) → j < length l → getD l j 0 ≡ getD l j 1
+pub getD-any : (l : List ℕ) (j : ℕ) → j < length l → getD l j 0 ≡ getD l j 1
 getD-any [] j h = absurd (omega arith)
 getD-any (x ∷ l) zero h = refl
 getD-any (x ∷ l) (suc j) h = getD-any l j (omega arith)

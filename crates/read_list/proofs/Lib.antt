@@ -10,6 +10,3 @@ pub mod FitLaws
 pub mod ListAgrees
 pub mod Agrees
 pub mod CheckAgrees
-pub mod CountLaws
-pub mod TallyLaws
-pub mod CountAgrees

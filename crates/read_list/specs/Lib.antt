@@ -1,8 +1,6 @@
 pub mod Entries
 pub mod Room
 pub mod Walked
-pub mod Tallied
 pub mod Parts
 pub mod Listed
 pub mod Checked
-pub mod Counted

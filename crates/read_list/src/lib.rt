@@ -16,7 +16,6 @@ ghost use Rattle.read_list.specs.Parts.{count-of, lay-out, put-parts};
 ghost use Rattle.read_list.specs.Listed.{listed};
 
 pub mod check;
-pub mod count;
 pub mod entry;
 
 use crate::entry::put_entries;
@@ -30,12 +29,6 @@ pub enum ListRule {
 // The cursor after a list, or a refusal.
 pub enum ListStep {
     Listed(Cursor),
-    Refused(Refusal),
-}
-
-// The cursor after a list, with H of the row that it makes, or a refusal.
-pub enum CountedStep {
-    Counted(Cursor, usize),
     Refused(Refusal),
 }
 
@@ -57,14 +50,6 @@ pub struct Walk {
     pub more: usize,
 }
 
-// The same, with the heterozygous samples so far: those that a row had or a list brought, and those that the list took.
-pub struct Tally {
-    pub st: State,
-    pub more: usize,
-    pub had: usize,
-    pub lost: usize,
-}
-
 // The place after an entry's sample or value, or a refusal.
 pub enum EntryStep {
     On(State),
@@ -84,7 +69,7 @@ pub enum PartsStep {
 }
 
 // 01: "A count L, at most N, as a varint." Its refusals: 12, 15, 16.
-fn read_count(s: &[u8], n: usize, c: Cursor) -> CountStep
+pub fn read_count(s: &[u8], n: usize, c: Cursor) -> CountStep
     requires { ⌜ c .at ≤ length (now s) ⌝ }
     ensures { λ r. ⌜ r ≡ count-of (varint-at (now (s .entry)) (c .at)) n (c .at) ⌝ }
 {
@@ -102,7 +87,7 @@ fn read_count(s: &[u8], n: usize, c: Cursor) -> CountStep
 }
 
 // 01, Replies: "the heads, size bytes and values must fit; unused value bits (18)". The parts of a list of m entries, whose heads start at `c`.
-fn lay_parts(s: &[u8], n: usize, m: usize, c: Cursor) -> PartsStep
+pub fn lay_parts(s: &[u8], n: usize, m: usize, c: Cursor) -> PartsStep
     requires { ⌜ (c .at ≤ length (now s)) × (0 < m) × (m ≤ most-samples) ⌝ }
     ensures { λ r. ⌜ r ≡ lay-out (now (s .entry)) n m (c .at) ⌝ }
 {

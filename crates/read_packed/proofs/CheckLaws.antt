@@ -1,6 +1,6 @@
 -- What the check of an array says, and what an array is to a row.
 -- Assumes nothing.
-use mathlib.Core.Path.{_≡_, sym, _∙_}
+use mathlib.Core.Path.{_≡_, sym, ap, _∙_}
 use Prim.Native.Nat.{ℕ, _+_, _-_, _≤_, _<_}
 use native.Mathlib.Omega.{arith}
 use native.Mathlib.Decide.{ℕ-discrete}
@@ -11,11 +11,12 @@ use mir.Syntax.{w8}
 use mir.Val.{Fits}
 use borrow.Author.Tests.{eq-eqb, ne-eqb}
 use Rattle.format.specs.declared.Refusal.{Refusal}
-use Rattle.format.specs.Base.{Out, ok, refused, refusal}
-use Rattle.format.specs.Packed.{Bits, one, two, packed-size, read-packed}
-use Rattle.format.proofs.Rules.{split}
+use Rattle.format.specs.Base.{Out, ok, refused, refusal, Below}
+use Rattle.format.specs.Packed.{Bits, one, two, limit, packed, packed-size, read-packed}
+use Rattle.format.proofs.Rules.{split, below-drop}
+use Rattle.format.proofs.PackedLaws.{ArePacked, packed-as-written, packed-length}
 use Rattle.head_index.specs.NumbersAt.{digits-at}
-use Rattle.head_index.proofs.ByIndex.{digits-length}
+use Rattle.head_index.proofs.ByIndex.{digits-length, bytes-of}
 use Rattle.head_index.proofs.UnusedBits.{has-byte}
 use Rattle.base_cursor.specs.Steps.{cursor-at}
 use Rattle.base_cursor.specs.declared.Cursor.{Cursor}
@@ -142,3 +143,23 @@ pub pair-higher : (lower higher bit : ℕ) → (bit ≡ 0 → ⊥) → higher �
 pair-higher lower higher bit e = simp (ne-eqb bit 0 e)
 
 pub ruleset unpack-laws = (array-room, two-refused, two-accepted, one-refused, one-accepted)
+
+-- ---- the bytes of an accepted array are those that pack its numbers
+
+pub record Held (bits : Bits) (l : List ℕ) (at n end : ℕ) : Type 0 where
+  pub part : take (end - at) (drop at l) ≡ packed bits (digits-at bits (drop at l) 0 n)
+  pub small : Below (limit bits) (digits-at bits (drop at l) 0 n)
+  pub count : length (digits-at bits (drop at l) 0 n) ≡ n
+
+pub accepted-held : (bits : Bits) (l : List ℕ) (at n : ℕ) (end : Cursor) → ((i : ℕ) → getD l i 0 < 256) → Accepted bits l at n end → Held bits l at n (end .at)
+accepted-held bits l at n end y a =
+    let digits : List ℕ = digits-at bits (drop at l) 0 n in
+    let p : ArePacked bits n (drop at l) digits (drop (end .at) l)
+    = rw (a .reads) at (packed-as-written (length l) bits n (drop at l) (below-drop 256 at l (bytes-of l y))) in
+    let s : end .at ≡ at + packed-size bits n = ap (λ (z : Cursor). z .at) (a .ends) in
+    let k : length (packed bits digits) ≡ end .at - at = packed-length bits n digits (p .count) ∙ omega arith in
+    record {
+      part = ap (take (end .at - at)) (p .written) ∙ take-at (packed bits digits) (drop (end .at) l) (end .at - at) k;
+      small = p .small;
+      count = p .count;
+    }

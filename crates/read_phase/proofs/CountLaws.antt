@@ -4,49 +4,20 @@ use mathlib.Core.Path.{_≡_, refl}
 use Prim.Native.Nat.{ℕ, zero, suc, _+_, _-_, _<_, _≤_}
 use native.Mathlib.Omega.{arith}
 use native.Mathlib.Numerals.{add-one}
-use mathlib.Core.Bool.{Bool, true, false}
 use mathlib.Core.List.{List, [], _∷_, _++_}
 use lib.ListN.{length, getD, take, drop, drop-of-length-le, length-take}
 use lib.Seq.{drop-cons}
 use mir.Syntax.{w8, w64}
 use mir.Val.{Fits}
-use Rattle.format.specs.Base.{pick}
 use Rattle.format.specs.Limits.{most-samples}
-use Rattle.format.specs.Phase.{heterozygous, heterozygous-count}
+use Rattle.format.specs.Phase.{heterozygous-count}
 use Rattle.format.proofs.PhaseLaws.{heterozygous-count-most}
-
--- ---- one sample
-
--- 1 where it is heterozygous, else 0
-abbrev pub here : ℕ → ℕ
-here category = pick (heterozygous category) 1 0
-
-pub heterozygous-one : (category : ℕ) (b : Bool) → b ≡ heterozygous category → b ≡ true → 1 ≡ here category
-heterozygous-one category b e t = rw (← e, t) refl
-
-pub heterozygous-none : (category : ℕ) (b : Bool) → b ≡ heterozygous category → b ≡ false → 0 ≡ here category
-heterozygous-none category b e t = rw (← e, t) refl
-
-pub ruleset heterozygous-laws = (heterozygous-one, heterozygous-none)
-
-pub here-few : (category : ℕ) → here category ≤ 1
-here-few category = either (heterozygous category)
-  where
-    either : (b : Bool) → pick b 1 0 ≤ 1
-    either true = omega arith
-    either false = omega arith
+use Rattle.base_calls.specs.Calls.{call-count}
+use Rattle.base_calls.proofs.CallLaws.{call-few, count-cons}
 
 -- ---- H of a list, sample by sample
 
-pub count-cons : (category : ℕ) (row : List ℕ) → heterozygous-count (category ∷ row) ≡ here category + heterozygous-count row
-unfolding heterozygous-count
-count-cons category row = either (heterozygous category)
-  where
-    either : (b : Bool) → pick b (suc (heterozygous-count row)) (heterozygous-count row) ≡ pick b 1 0 + heterozygous-count row
-    either true = omega arith
-    either false = omega arith
-
-count-none : heterozygous-count [] ≡ 0
+pub count-none : heterozygous-count [] ≡ 0
 unfolding heterozygous-count
 count-none = refl
 
@@ -67,9 +38,9 @@ pub uncounted : (part : List ℕ) → length part ≤ 255 → Counting part 0 0
 uncounted part h = record { reached = omega arith; short = h; few = omega arith; whole = omega arith }
 
 module _ (part : List ℕ) (count i : ℕ) (w : Counting part count i) where
-  module _ (h : i < length part) (x : ℕ) (e : x ≡ here (getD part i 0)) where
+  module _ (h : i < length part) (x : ℕ) (e : x ≡ call-count (getD part i 0)) where
     one : x ≤ 1
-    one = rw e (here-few (getD part i 0))
+    one = rw e (call-few (getD part i 0))
 
     pub count-room : Fits w8 (count + x)
     count-room = record { fits = omega (arith, one) }
@@ -105,7 +76,7 @@ front zero (suc end) row g = absurd (omega arith)
 front (suc n) (suc end) [] g = refl
 front (suc n) (suc end) (x ∷ row) g = rw (← front n end row (omega arith))
 
-cut : (n i end : ℕ) (row : List ℕ) → i ≤ end → end ≤ n → drop i (take n row) ≡ take (end - i) (drop i row) ++ drop end (take n row)
+pub cut : (n i end : ℕ) (row : List ℕ) → i ≤ end → end ≤ n → drop i (take n row) ≡ take (end - i) (drop i row) ++ drop end (take n row)
 cut n zero end row h g = let z : end - 0 ≡ end = omega arith in rw z (front n end row g)
 cut n (suc i) zero row h g = absurd (omega arith)
 cut zero (suc i) (suc end) row h g = absurd (omega arith)

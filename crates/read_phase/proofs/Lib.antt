@@ -4,4 +4,6 @@ pub mod PartLaws
 pub mod TrackLaws
 pub mod TellLaws
 pub mod PutLaws
+pub mod SpreadLaws
+pub mod SpreadingLaws
 pub mod ThereLaws

@@ -7,19 +7,15 @@ use native.Mathlib.Nat.{div-one}
 use mathlib.Core.Bool.{Bool, true, false}
 use mathlib.Core.List.{List, [], _∷_}
 use lib.ListN.{length, getD, take, drop}
-use lib.Seq.{take-at}
 use borrow.Author.Tests.{eqb-true}
 use Rattle.format.specs.Base.{pick, Below, ok, map-out}
 use Rattle.format.specs.Packed.{one, packed, packed-size, read-packed}
 use Rattle.format.specs.Phase.{first-of, first-count, presence, ones, track-told, read-phase-track}
-use Rattle.format.proofs.Rules.{below-drop}
-use Rattle.format.proofs.PackedLaws.{ArePacked, packed-as-written, packed-length}
 use Rattle.head_index.specs.NumbersAt.{digit-at, digits-at}
-use Rattle.head_index.proofs.ByIndex.{bytes-of}
 use Rattle.base_cursor.specs.declared.Cursor.{Cursor}
 use Rattle.read_packed.specs.Unpacked.{array-at}
 use Rattle.read_packed.specs.declared.PackedStep.the-variants.{Next}
-use Rattle.read_packed.proofs.CheckLaws.{Accepted, was-accepted}
+use Rattle.read_packed.proofs.CheckLaws.{Accepted, was-accepted, Held, accepted-held}
 use Rattle.read_phase.specs.Phases.{byte-ones, stored-at}
 use Rattle.read_phase.proofs.OnesLaws.{packed-ones, ones-few, ones-all}
 
@@ -54,18 +50,9 @@ module _ (l : List ℕ) (at h : ℕ) where
   first-part known room next e =
       let n : ℕ = first-count h (drop at l) in
       let a : Accepted one l at n next = was-accepted one l at n next known room e in
-      let p : ArePacked one n (drop at l) first-there (drop (next .at) l)
-      = rw (a .reads) at (packed-as-written (length l) one n (drop at l) (below-drop 256 at l (bytes-of l known))) in
+      let p : Held one l at n (next .at) = accepted-held one l at n next known a in
       let s : next .at ≡ at + packed-size one n = ap (λ (z : Cursor). z .at) (a .ends) in
-      let k : length (packed one first-there) ≡ next .at - at = packed-length one n first-there (p .count) ∙ omega arith in
-      record {
-        ends = s;
-        inside = rw s (a .inside);
-        reads = a .reads;
-        part = ap (take (next .at - at)) (p .written) ∙ take-at (packed one first-there) (drop (next .at) l) (next .at - at) k;
-        small = p .small;
-        count = p .count;
-      }
+      record { ends = s; inside = rw s (a .inside); reads = a .reads; part = p .part; small = p .small; count = p .count }
 
   module _ (end : ℕ) (f : FirstPart end) where
     set-bits : byte-ones (take (end - at) (drop at l)) ≡ ones first-there

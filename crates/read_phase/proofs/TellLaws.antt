@@ -1,84 +1,63 @@
--- What a row's heterozygous calls are told by presence bits and phase bits, sample by sample.
+-- What heterozygous calls are told by presence bits and phase bits, call by call.
 -- Assumes nothing.
 use mathlib.Core.Path.{_≡_, refl, ap, _∙_}
-use Prim.Native.Nat.{ℕ, zero, suc, _+_, _*_, _<_, _≤_}
+use Prim.Native.Nat.{ℕ, zero, suc, _+_, _<_, _≤_}
 use native.Mathlib.Omega.{arith}
 use native.Mathlib.Nat.{add-zero, zero-add}
-use mathlib.Core.Bool.{Bool, true, false}
-use mathlib.Core.List.{List, [], _∷_}
+use mathlib.Core.List.{_∷_}
 use lib.ListN.{length, replicate}
 use lib.Dec.{eqb}
 use borrow.Author.Tests.{eq-eqb, ne-eqb}
 use Rattle.format.specs.Base.{pick}
-use Rattle.format.specs.Phase.{heterozygous, heterozygous-count, ones, phases-told, spread}
+use Rattle.format.specs.Phase.{ones, phases-told}
 use Rattle.read_phase.specs.Parts.{phase-of, drawn, told-from}
-use Rattle.read_phase.proofs.CountLaws.{here}
 
 module _ (present : ℕ → ℕ) where
-  -- how many phase bits are left, before a sample and after it
-  pub bits-next : (h category : ℕ) (row : List ℕ)
-      → ones (drawn present h (heterozygous-count (category ∷ row)))
-      ≡ here category * present h + ones (drawn present (h + here category) (heterozygous-count row))
-  unfolding heterozygous-count drawn ones
-  bits-next h category row = either (heterozygous category) refl
-    where
-      either : (b : Bool) → heterozygous category ≡ b → ones (drawn present h (heterozygous-count (category ∷ row)))
-          ≡ here category * present h + ones (drawn present (h + here category) (heterozygous-count row))
-      either true t = simp t (omega arith)
-      either false t = simp (t, add-zero) (omega arith)
-
-  pub bits-few : (h m : ℕ) → ((k : ℕ) → present k < 2) → ones (drawn present h m) ≤ m
+  -- how many phase bits are left, before a call and after it
+  pub bits-next : (k m : ℕ) → ones (drawn present k (suc m)) ≡ present k + ones (drawn present (k + 1) m)
   unfolding drawn ones
-  bits-few h zero small = omega arith
-  bits-few h (suc m) small = omega (arith, small h, bits-few (h + 1) m small)
+  bits-next k m = refl
+
+  pub bits-few : (k m : ℕ) → ((k : ℕ) → present k < 2) → ones (drawn present k m) ≤ m
+  unfolding drawn ones
+  bits-few k zero small = omega arith
+  bits-few k (suc m) small = omega (arith, small k, bits-few (k + 1) m small)
 
 module _ (present bit : ℕ → ℕ) where
   -- what a call is told, and what is left to tell
-  call-told : (h p m : ℕ) (row : List ℕ) → present h < 2 → bit p < 2
-      → spread (1 ∷ row) (told-from present bit h p (suc m)) ≡ phase-of (present h) (bit p) ∷ spread row (told-from present bit (h + 1) (p + present h) m)
-  unfolding told-from drawn ones phases-told spread
-  call-told h p m row small two = either (present h) refl small
+  pub told-next : (k p m : ℕ) → present k < 2 → bit p < 2
+      → told-from present bit k p (suc m) ≡ phase-of (present k) (bit p) ∷ told-from present bit (k + 1) (p + present k) m
+  unfolding told-from drawn ones phases-told
+  told-next k p m small two = either (present k) refl small
     where
       told-as : (b : ℕ) → b < 2 → suc b ≡ pick (eqb b 0) 1 2
-      told-as zero k = refl
-      told-as (suc zero) k = refl
-      told-as (suc (suc b)) k = absurd (omega arith)
+      told-as zero j = refl
+      told-as (suc zero) j = refl
+      told-as (suc (suc b)) j = absurd (omega arith)
 
-      either : (x : ℕ) → present h ≡ x → x < 2 → spread (1 ∷ row) (told-from present bit h p (suc m))
-          ≡ phase-of (present h) (bit p) ∷ spread row (told-from present bit (h + 1) (p + present h) m)
-      either zero e k = rw (e, zero-add (ones (drawn present (h + 1) m)), add-zero p) refl
-      either (suc zero) e k =
-          let s : 1 + ones (drawn present (h + 1) m) ≡ suc (ones (drawn present (h + 1) m)) = omega arith in
+      either : (x : ℕ) → present k ≡ x → x < 2 → told-from present bit k p (suc m)
+          ≡ phase-of (present k) (bit p) ∷ told-from present bit (k + 1) (p + present k) m
+      either zero e j = rw (e, zero-add (ones (drawn present (k + 1) m)), add-zero p) refl
+      either (suc zero) e j =
+          let s : 1 + ones (drawn present (k + 1) m) ≡ suc (ones (drawn present (k + 1) m)) = omega arith in
           rw (e, s, ← told-as (bit p) two) refl
-      either (suc (suc x)) e k = absurd (omega arith)
+      either (suc (suc x)) e j = absurd (omega arith)
 
-  pub told-next : (h p category : ℕ) (row : List ℕ) → present h < 2 → bit p < 2
-      → spread (category ∷ row) (told-from present bit h p (heterozygous-count (category ∷ row)))
-      ≡ phase-of (here category * present h) (bit p)
-      ∷ spread row (told-from present bit (h + here category) (p + here category * present h) (heterozygous-count row))
-  unfolding heterozygous-count spread
-  told-next h p category row small two = either (heterozygous category) refl
-    where
-      either : (b : Bool) → heterozygous category ≡ b → spread (category ∷ row) (told-from present bit h p (heterozygous-count (category ∷ row)))
-          ≡ phase-of (here category * present h) (bit p)
-          ∷ spread row (told-from present bit (h + here category) (p + here category * present h) (heterozygous-count row))
-      either true t =
-          let s : 1 * present h ≡ present h = omega arith in
-          rw (t, s) (call-told h p (heterozygous-count row) row small two)
-      either false t =
-          let s : 0 * present h ≡ 0 = omega arith in
-          rw (t, s, add-zero h, add-zero p) refl
+  module _ (small : (k : ℕ) → present k < 2) (two : (k : ℕ) → bit k < 2) where
+    -- once no phase bit is left, all other calls are unphased
+    pub none-told : (k p m : ℕ) → ones (drawn present k m) ≡ 0 → told-from present bit k p m ≡ replicate m 0
+    unfolding told-from drawn phases-told
+    none-told k p zero e = refl
+    none-told k p (suc m) e =
+        let o : present k ≡ 0 = omega (arith, bits-next present k m) in
+        let j : ones (drawn present (k + 1) m) ≡ 0 = omega (arith, bits-next present k m) in
+        told-next k p m (small k) (two p) ∙ rw o (ap (_∷_ 0) (none-told (k + 1) (p + 0) m j))
 
-  -- once no phase bit is left, all others are unphased
-  pub none-told : (h p : ℕ) (row : List ℕ) → ((k : ℕ) → present k < 2) → ((k : ℕ) → bit k < 2)
-      → ones (drawn present h (heterozygous-count row)) ≡ 0
-      → spread row (told-from present bit h p (heterozygous-count row)) ≡ replicate (length row) 0
-  unfolding spread
-  none-told h p [] small two e = refl
-  none-told h p (category ∷ row) small two e =
-      let o : here category * present h ≡ 0 = omega (arith, bits-next present h category row) in
-      let k : ones (drawn present (h + here category) (heterozygous-count row)) ≡ 0 = omega (arith, bits-next present h category row) in
-      told-next h p category row (small h) (two p) ∙ rw o (ap (_∷_ 0) (none-told (h + here category) (p + 0) row small two k))
+    -- each call is told a phase
+    pub told-length : (k p m : ℕ) → length (told-from present bit k p m) ≡ m
+    unfolding told-from drawn phases-told
+    told-length k p zero = refl
+    told-length k p (suc m) = ap length (told-next k p m (small k) (two p)) ∙ ap suc (told-length (k + 1) (p + present k) m)
 
 -- the ways out of `phase_of`
 module _ (on bit : ℕ) where

@@ -6,12 +6,13 @@ use native.Mathlib.Omega.{arith}
 use mathlib.Core.Bool.{Bool, true, false}
 use mathlib.Core.List.{List}
 use lib.ListN.{length, getD, take, drop, replicate, length-take}
+use lib.Seq.{drop-at, drop-drop}
 use mir.Syntax.{w8}
 use mir.Val.{Fits}
 use Rattle.format.specs.Base.{pick, Out, ok, refused, map-out}
 use Rattle.format.specs.Limits.{most-samples}
 use Rattle.format.specs.Packed.{one, packed-size, read-packed}
-use Rattle.format.specs.Phase.{PhaseTrack, heterozygous-count, first-count, presence, ones, track-told, read-phase-track}
+use Rattle.format.specs.Phase.{PhaseTrack, heterozygous-count, first-count, presence, ones, track-told, read-phase-track, spread}
 use Rattle.format.proofs.PhaseLaws.{heterozygous-count-most}
 use Rattle.head_index.specs.NumbersAt.{digits-at}
 use Rattle.base_cursor.specs.Steps.{before}
@@ -22,9 +23,12 @@ use Rattle.read_packed.specs.declared.PackedStep.{PackedStep}
 use Rattle.read_packed.specs.declared.PackedStep.the-variants.{Next}
 use Rattle.read_packed.proofs.CheckLaws.{Accepted, was-accepted}
 use Rattle.read_phase.specs.Phases.{byte-ones, stored-at, phases-at, PhasesThere, phases-put}
-use Rattle.read_phase.specs.Parts.{presence-at, drawn, told-from, present-in, bit-in, PartsThere, parts-put}
+use Rattle.read_phase.specs.Parts.{presence-at, drawn, told-from, present-in, bit-in, PartsThere, calls-put, spread-from, parts-put}
 use Rattle.read_phase.specs.declared.PhaseParts.{PhaseParts}
 use Rattle.read_phase.proofs.PartLaws.{FirstPart, first-part, first-there, first-digit, first-set, phase-bits-there, phased-found, track-reads}
+use Rattle.read_phase.proofs.TellLaws.{told-length}
+use Rattle.read_phase.proofs.PutLaws.{bit-small, present-small}
+use Rattle.read_phase.proofs.SpreadLaws.{spread-front}
 
 -- ---- bits by index
 
@@ -129,14 +133,39 @@ phases-there n l at row h got end o e q = through (read-phase-track (length l) (
     through (ok track left) r = record { track = track; left = left; reads = r }
     through (refused why) r = absurd (let f = rw (o, r) at (sym q ∙ e) in let z : _≡_ {A = ℕ} 0 1 = cc in omega arith)
 
+-- ---- the two passes of `put_bits`
+
+module _ (n : ℕ) (row : List ℕ) (h : ℕ) (o : h ≡ heterozygous-count (take n row)) where
+  calls-most : h ≤ n
+  calls-most = omega (arith, heterozygous-count-most (take n row), length-take n row)
+
+  pub calls-few : n ≤ most-samples → h ≤ most-samples
+  calls-few few = omega (arith, calls-most)
+
+  pub calls-fit : (output : List ℕ) → n ≤ length output → h ≤ length output
+  calls-fit output space = omega (arith, calls-most)
+
+  -- what the first has put at the output's front the second spreads over the row
+  pub both-put : (l : List ℕ) (parts : PhaseParts) (entry front new : List ℕ) → front ≡ calls-put h l parts entry → new ≡ spread-from 0 n row front
+      → new ≡ parts-put n l parts row entry
+  unfolding spread-from
+  both-put l parts entry front new e q =
+      let told : List ℕ = told-from (present-in l parts) (bit-in l parts) 0 0 h in
+      let size : length told ≡ h = told-length (present-in l parts) (bit-in l parts) (present-small l parts) (bit-small l (parts .bits)) 0 0 h in
+      let end : h + (n - h) ≡ n = omega (arith, calls-most) in
+      let taken : spread (take n row) front ≡ spread (take n row) told
+      = rw e (spread-front (take n row) told (drop h entry) (omega arith)) in
+      let rest : drop n front ≡ drop n entry
+      = rw (← end, ← drop-drop (n - h) h front, ← drop-drop (n - h) h entry) (ap (drop (n - h)) (rw e (drop-at told (drop h entry) h size))) in
+      q ∙ rw (taken, rest, ← o) refl
+
+pub ruleset both-laws = (calls-few, calls-fit, both-put)
+
 -- ---- the ways through `put_phases`: h, stored, m, size and count are what the calls gave
 
 module _ (n : ℕ) (row : List ℕ) (h : ℕ) (o : h ≡ heterozygous-count (take n row)) (few : n ≤ most-samples) where
-  pub calls-few : h ≤ most-samples
-  calls-few = omega (arith, heterozygous-count-most (take n row), length-take n row)
-
   pub first-bits-few : (stored : Bool) (m : ℕ) → m ≡ suc (pick stored h 0) → m ≤ most-numbers
-  first-bits-few true m e = omega (arith, calls-few)
+  first-bits-few true m e = omega (arith, calls-few n row h o few)
   first-bits-few false m e = omega arith
 
 module _ (n : ℕ) (l : List ℕ) (at : ℕ) (row : List ℕ) (there : PhasesThere n l at row) (known : (i : ℕ) → Fits w8 (getD l i 0)) (room : at ≤ length l)
@@ -165,7 +194,7 @@ module _ (n : ℕ) (l : List ℕ) (at : ℕ) (row : List ℕ) (there : PhasesThe
     abbrev parts : PhaseParts
     parts = record { at = at; stored = stored; bits = at + size; count = count }
 
-    pub parts-there : PartsThere (heterozygous-count (take n row)) l parts
+    pub parts-there : PartsThere h l parts
     parts-there = rw (c, sizes, s, o) (found-there l (λ i. known i .fits) at H room (there .track) (there .left) (there .reads))
 
     pub phases-told-are : (entry new : List ℕ) → new ≡ parts-put n l parts row entry → new ≡ phases-put n l at row entry

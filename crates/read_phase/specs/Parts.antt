@@ -41,6 +41,14 @@ pub record PartsThere (h : ℕ) (l : List ℕ) (parts : PhaseParts) : Type 0 whe
   pub bits-inside : parts .bits + packed-size one (parts .count) ≤ length l
   pub count-is : parts .count ≡ ones (drawn (present-in l parts) 0 h)
 
+-- the phases that they tell, one after another at an output's front
+abbrev pub calls-put : ℕ → List ℕ → PhaseParts → List ℕ → List ℕ
+calls-put h l parts output = told-from (present-in l parts) (bit-in l parts) 0 0 h ++ drop h output
+
+-- an output whose front has the phases of a row's calls one after another, once sample i and those after it, up to n, have theirs
+unfoldable pub spread-from : ℕ → ℕ → List ℕ → List ℕ → List ℕ
+spread-from i n row output = take i output ++ drop i (spread (take n row) output ++ drop n output)
+
 -- the phases that they tell, in the first n bytes of an output, by the row
 abbrev pub parts-put : ℕ → List ℕ → PhaseParts → List ℕ → List ℕ → List ℕ
 parts-put n l parts row output =

@@ -1,6 +1,6 @@
 // The phase track of a record: H of a row, the track checked, the track put into an output. Every slice `s` is the file cut where the record ends, so
 // that its length is the record's end.
-use base_calls::is_heterozygous;
+use base_calls::call_count;
 use base_cursor::Cursor;
 use read_packed::PackedStep;
 use read_packed::Width;
@@ -13,16 +13,9 @@ ghost use mathlib.Core.Bool.{true};
 ghost use lib.ListN.{length, take};
 ghost use Rattle.format.specs.Base.{pick};
 ghost use Rattle.format.specs.Limits.{most-samples};
-ghost use Rattle.format.specs.Phase.{heterozygous, heterozygous-count};
+ghost use Rattle.format.specs.Phase.{heterozygous-count};
 ghost use Rattle.read_phase.specs.Phases.{byte-ones, stored-at, phases-at, PhasesThere, phases-put};
-ghost use Rattle.read_phase.specs.Parts.{presence-at, phase-of, PartsThere, parts-put};
-
-// 1 for a heterozygous sample, else 0.
-fn heterozygous(category: u8) -> u8
-    ensures { λ r. ⌜ r ≡ pick (heterozygous category) 1 0 ⌝ }
-{
-    if is_heterozygous(category) { 1 } else { 0 }
-}
+ghost use Rattle.read_phase.specs.Parts.{presence-at, phase-of, PartsThere, calls-put, spread-from, parts-put};
 
 // H of a part of a row, in a byte, so that the loop goes over many samples at once.
 fn count_in(part: &[u8]) -> u8
@@ -32,7 +25,7 @@ fn count_in(part: &[u8]) -> u8
     let mut count: u8 = 0;
     let mut i: usize = 0;
     while i < part.len() {
-        count = count + heterozygous(part[i]);
+        count = count + call_count(part[i]);
         i = i + 1;
     }
     count
@@ -54,7 +47,7 @@ pub fn heterozygous_count(row: &[u8], n: usize) -> usize
 }
 
 // How many bits of some bytes are set.
-fn presence_ones(part: &[u8]) -> usize
+pub fn ones_in(part: &[u8]) -> usize
     requires { ⌜ length (now part) ≤ most-samples ⌝ }
     ensures { λ r. ⌜ r ≡ byte-ones (now (part .entry)) ⌝ }
 {
@@ -89,7 +82,7 @@ pub fn phased_count(part: &[u8], stored: bool, h: usize) -> usize
     ensures { λ r. ⌜ r ≡ pick stored (byte-ones (now (part .entry)) - 1) h ⌝ }
 {
     if stored {
-        return presence_ones(part) - 1;
+        return ones_in(part) - 1;
     }
     h
 }
@@ -141,25 +134,89 @@ fn phase_of(on: u8, bit: u8) -> u8
     if bit == 0 { 1 } else { 2 }
 }
 
-// The phases that the parts tell. Once the phase bits are used up, all other samples are unphased: so the loop looks for no bit that is not there,
-// and has no other test.
-fn put_bits(s: &[u8], parts: PhaseParts, n: usize, row: &[u8], output: &mut [u8])
-    requires { ⌜ PartsThere (heterozygous-count (take n (now row))) (now s) parts ⌝ }
+// The phases of the h heterozygous calls, one after another, in an output's first h bytes. Once the phase bits are used up, all other calls are
+// unphased: so the loop looks for no bit that is not there, and has no other test.
+fn put_calls(s: &[u8], parts: PhaseParts, h: usize, output: &mut [u8])
+    requires { ⌜ PartsThere h (now s) parts ⌝ }
+    requires { ⌜ (h ≤ length (now output)) × (h ≤ most-samples) ⌝ }
+    ensures { λ _. ⌜ now (output .exit) ≡ calls-put h (now (s .entry)) parts (now (output .entry)) ⌝ }
+{
+    base_rows::clear(output, h);
+    let mut k: usize = 0;
+    let mut p: usize = 0;
+    while p < parts.count {
+        let on = presence_bit(s, parts.at, parts.stored, k);
+        output[k] = phase_of(on, one_bit(s, parts.bits, p));
+        k = k + 1;
+        p = p + (on as usize);
+    }
+}
+
+// The phases that stand one after another at an output's front, to their samples from `from` up to `to`; h calls stand before `to`, and it gives how
+// many stand before `from`. It goes backwards, as a sample's phase stands at the sample's own place or before it: so no phase is overwritten that is
+// still to be read.
+fn spread_samples(from: usize, to: usize, h: usize, row: &[u8], output: &mut [u8]) -> usize
+    requires { ⌜ (from ≤ to) × (to ≤ length (now row)) × (to ≤ length (now output)) ⌝ }
+    requires { ⌜ h ≡ heterozygous-count (take to (now row)) ⌝ }
+    ensures { λ r. ⌜ r ≡ heterozygous-count (take from (now (row .entry))) ⌝ }
+    ensures { λ _. ⌜ now (output .exit) ≡ spread-from from to (now (row .entry)) (now (output .entry)) ⌝ }
+{
+    let mut i: usize = to;
+    let mut k: usize = h;
+    while from < i {
+        i = i - 1;
+        let here = call_count(row[i]);
+        k = k - (here as usize);
+        output[i] = here * output[k];
+    }
+    k
+}
+
+// The same for a short part, which is only cleared where no sample of it is heterozygous: that is quicker than to go through its samples.
+fn spread_part(from: usize, to: usize, h: usize, row: &[u8], output: &mut [u8]) -> usize
+    requires { ⌜ (from ≤ to) × (to ≤ from + 16) × (to ≤ length (now row)) × (to ≤ length (now output)) ⌝ }
+    requires { ⌜ h ≡ heterozygous-count (take to (now row)) ⌝ }
+    ensures { λ r. ⌜ r ≡ heterozygous-count (take from (now (row .entry))) ⌝ }
+    ensures { λ _. ⌜ now (output .exit) ≡ spread-from from to (now (row .entry)) (now (output .entry)) ⌝ }
+{
+    if count_in(&row[from..to]) == 0 {
+        base_rows::clear(&mut output[from..to], to - from);
+        return h;
+    }
+    spread_samples(from, to, h, row, output)
+}
+
+// Where the short part begins that ends at `to`.
+fn part_start(to: usize) -> usize
+    requires { ⌜ 0 < to ⌝ }
+    ensures { λ r. ⌜ (r < to) × (to ≤ r + 16) ⌝ }
+{
+    if 16 < to { to - 16 } else { 0 }
+}
+
+// All of them to their samples, the first n of the row, a short part at a time, from the last to the first.
+fn spread_calls(n: usize, h: usize, row: &[u8], output: &mut [u8])
+    requires { ⌜ (n ≤ length (now row)) × (n ≤ length (now output)) ⌝ }
+    requires { ⌜ h ≡ heterozygous-count (take n (now row)) ⌝ }
+    ensures { λ _. ⌜ now (output .exit) ≡ spread-from 0 n (now (row .entry)) (now (output .entry)) ⌝ }
+{
+    let mut i: usize = n;
+    let mut k: usize = h;
+    while 0 < i {
+        let from = part_start(i);
+        k = spread_part(from, i, k, row, output);
+        i = from;
+    }
+}
+
+// The phases that the parts tell, in two passes, so that bits are looked for once for each call, and not for each sample.
+fn put_bits(s: &[u8], parts: PhaseParts, h: usize, n: usize, row: &[u8], output: &mut [u8])
+    requires { ⌜ PartsThere h (now s) parts × (h ≡ heterozygous-count (take n (now row))) ⌝ }
     requires { ⌜ (n ≤ length (now row)) × (n ≤ length (now output)) × (n ≤ most-samples) ⌝ }
     ensures { λ _. ⌜ now (output .exit) ≡ parts-put n (now (s .entry)) parts (now (row .entry)) (now (output .entry)) ⌝ }
 {
-    base_rows::clear(output, n);
-    let mut i: usize = 0;
-    let mut h: usize = 0;
-    let mut p: usize = 0;
-    while p < parts.count {
-        let here = heterozygous(row[i]);
-        let on = here * presence_bit(s, parts.at, parts.stored, h);
-        output[i] = phase_of(on, one_bit(s, parts.bits, p));
-        i = i + 1;
-        h = h + (here as usize);
-        p = p + (on as usize);
-    }
+    put_calls(s, parts, h, output);
+    spread_calls(n, h, row, output);
 }
 
 // 02, Ask 1: "A new reading fills N bytes": the phases of an accepted track into an output, by the record's own row.
@@ -179,5 +236,5 @@ pub fn put_phases(s: &[u8], c: Cursor, n: usize, row: &[u8], output: &mut [u8])
         bits: bits,
         count: count,
     };
-    put_bits(s, parts, n, row, output);
+    put_bits(s, parts, h, n, row, output);
 }

@@ -44,7 +44,7 @@ module _ (l : List ℕ) (start n type : ℕ) (anchor : List ℕ) (known : (i : �
   pub was-read : Holds (IsTrack n anchor (kind-of type) (drop start l)) track
   was-read = track-as-written (length l) n anchor (kind-of type) (drop start l) (below-drop 256 start l (bytes-of l (λ i. known i .fits)))
 
-categories-length : (n : ℕ) (anchor : List ℕ) (t : Track) → length anchor ≡ n → Fits n anchor t → length (track-categories n anchor t) ≡ n
+pub categories-length : (n : ℕ) (anchor : List ℕ) (t : Track) → length anchor ≡ n → Fits n anchor t → length (track-categories n anchor t) ≡ n
 categories-length n anchor (plain categories) e f = f .0
 categories-length n anchor (one-bit c bits es) e f = apply-length es (map (category-of c) bits) ∙ length-map bits (category-of c) ∙ f .0
 categories-length n anchor (leaning inverted es) e f = exchange-all-length inverted (apply es anchor) ∙ apply-length es anchor ∙ e

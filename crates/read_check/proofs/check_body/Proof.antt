@@ -11,8 +11,8 @@ check-body-spec =
     (tie.spec
     (λ c κs. search (body-laws, needs))
     (λ c κs. search (body-laws, needs))
-    (λ c. search (body-laws, needs))
     (λ c κs. search (body-laws, needs))
+    (λ c. search (body-laws, needs))
     (λ c κs. search (body-laws, needs))
     (λ c κs. search (body-laws, needs))
     (λ c. search (body-laws, needs)))

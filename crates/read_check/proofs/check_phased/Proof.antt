@@ -10,7 +10,6 @@ check-phased-spec =
     tie.close
     (tie.spec
     (λ c κs. search (phased-laws, needs))
-    (λ c κs. search (phased-laws, needs))
     (λ c. search (phased-laws, needs))
     (λ c. search (phased-laws, needs))
     (λ c κs. search (phased-laws, needs))

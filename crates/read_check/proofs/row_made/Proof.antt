@@ -12,6 +12,4 @@ row-made-spec =
     (λ c κs. search (made-laws, needs))
     (λ c. search (made-laws, needs))
     (λ c κs. search (made-laws, needs))
-    (λ c. search (made-laws, needs))
-    (λ c κs. search (made-laws, needs))
     (λ c. search (made-laws, needs)))

@@ -1,0 +1,5 @@
+pub mod Against
+pub mod Tallied
+pub mod Counted
+pub mod Bytes
+pub mod Tracks
