@@ -1,20 +1,18 @@
 -- What each way out of the checks of a track says.
 -- Assumes nothing.
-use mathlib.Core.Path.{_≡_, refl, ap}
+use mathlib.Core.Path.{_≡_, refl}
 use Prim.Native.Nat.{ℕ, _-_, _≤_, _<_}
-use native.Mathlib.Omega.{arith}
-use mathlib.Core.Bool.{Bool, true, false, not, _||_}
 use mathlib.Core.List.{List, [], map}
-use lib.ListN.{getD, length, take, drop, length-drop}
+use lib.ListN.{getD, length, take, drop}
 use lib.Dec.{eqb}
 use mir.Syntax.{w8}
 use mir.Val.{Fits as Bounded}
 use Rattle.format.specs.declared.Refusal.{Refusal}
 use Rattle.format.specs.Base.{Out, ok, refused, refusal, bind}
-use Rattle.format.specs.Packed.{Bits, one, two, read-packed}
+use Rattle.format.specs.Packed.{one, two, read-packed}
 use Rattle.format.specs.Difflist.{number-width, read-list}
 use Rattle.format.specs.PairCode.{PairCode, pair, found}
-use Rattle.format.specs.Track.{array, paired, kind, leans-kind, leans, one-bit, leaning, sparse}
+use Rattle.format.specs.Track.{array, paired, kind, one-bit, leaning, sparse}
 use Rattle.format.specs.Track.{rule, off-pair, off-anchor, off-category, bit-set, read-listed, read-kind}
 use Rattle.format.specs.declared.Pair.{Pair}
 use Rattle.format.specs.declared.PairFound.{PairFound}
@@ -35,7 +33,7 @@ use Rattle.read_record.proofs.RuleLaws.{list-same}
 use Rattle.read_record.proofs.CodeLaws.{code-inside, UnderCode, code-missing, code-unknown, code-known}
 use Rattle.read_record.proofs.BodyLaws.{leaning-kind, sparse-kind}
 use Rattle.read_record.proofs.EndLaws.{stepped-map}
-use Rattle.read_count.proofs.TrackLaws.{not-packed, accepted, next-inside, next-place, off-one, leaner-row}
+use Rattle.read_count.proofs.CountedTrackLaws.{not-packed, accepted, next-inside, next-place, off-one, leaner-row}
 use Rattle.read_check.specs.Checked.{track-checked, bits-checked}
 
 -- ---- kind 0

@@ -1,42 +1,41 @@
 -- What a list is against, sample by sample: what the code looks up is there, and it is the row, the pair's categories or the one category.
 -- Assumes nothing.
-use mathlib.Core.Path.{_≡_, refl, sym, ap, ap₂, _∙_}
+use mathlib.Core.Path.{_≡_, refl, sym, ap, _∙_}
 use Prim.Native.Nat.{ℕ, zero, suc, _+_, _/_, _≤_, _<_}
 use native.Mathlib.Omega.{arith}
 use native.Mathlib.Numerals.{add-one}
-use mathlib.Core.Bool.{Bool, true, false}
-use mathlib.Core.List.{List, [], _∷_, map}
+use mathlib.Core.Bool.{true, false}
+use mathlib.Core.List.{List, _∷_, map}
 use lib.ListN.{getD, length, take, drop, replicate}
 use lib.Seq.{drop-cons}
 use lib.Dec.{eqb}
 use borrow.Author.Tests.{eq-eqb, ne-eqb}
-use Rattle.format.specs.Packed.{one, packed-size}
+use Rattle.format.specs.Packed.{one}
 use Rattle.head_index.specs.NumbersAt.{digits-at}
 use Rattle.read_packed.specs.Arrays.{number-in}
 use Rattle.read_packed.specs.Unpacked.{of-pair}
 use Rattle.read_list.specs.Entries.{allows, Against}
-use Rattle.read_list.specs.declared.ListRule.{ListRule}
 use Rattle.read_list.specs.declared.ListRule.the-variants.{OffPair, OffRow}
-use Rattle.read_count.specs.Against.{rule-of, category-before, categories-before, base-row, BaseAt, BaseThere}
-use Rattle.read_count.specs.declared.Base.{Base}
-use Rattle.read_count.specs.declared.Base.the-variants.{Row, Bits, Category}
+use Rattle.read_count.specs.Bases.{rule-of, category-before, categories-before, base-row, BaseAt, BaseThere}
+use Rattle.read_count.specs.declared.StoredBase.{StoredBase}
+use Rattle.read_count.specs.declared.StoredBase.the-variants.{Row, Bits, Category}
 
 -- ---- the ways out of `rule_of`: `base` is what it was found to be
 
-pub rule-row : (base : Base) → base ≡ Row → OffRow ≡ rule-of base
+pub rule-row : (base : StoredBase) → base ≡ Row → OffRow ≡ rule-of base
 rule-row base e = rw e
 
-pub rule-bits : (base : Base) (at lower higher : ℕ) → base ≡ Bits at lower higher → OffPair lower higher ≡ rule-of base
+pub rule-bits : (base : StoredBase) (at lower higher : ℕ) → base ≡ Bits at lower higher → OffPair lower higher ≡ rule-of base
 rule-bits base at lower higher e = rw e
 
-pub rule-category : (base : Base) (category : ℕ) → base ≡ Category category → OffPair category category ≡ rule-of base
+pub rule-category : (base : StoredBase) (category : ℕ) → base ≡ Category category → OffPair category category ≡ rule-of base
 rule-category base category e = rw e
 
 pub ruleset rule-laws = (rule-row, rule-bits, rule-category)
 
 -- ---- the ways out of `category_before`
 
-module _ (base : Base) (l row : List ℕ) (sample : ℕ) where
+module _ (base : StoredBase) (l row : List ℕ) (sample : ℕ) where
   pub before-row-there : base ≡ Row → BaseAt base l row sample → sample < length row
   before-row-there e h = rw e at h
 
@@ -61,18 +60,18 @@ pub ruleset before-laws = (before-row-there, before-row, before-bit-there, befor
 
 -- ---- one sample of the first n
 
-pub base-at : (base : Base) (n : ℕ) (l row : List ℕ) (sample : ℕ) → BaseThere base n l row → sample < n → BaseAt base l row sample
+pub base-at : (base : StoredBase) (n : ℕ) (l row : List ℕ) (sample : ℕ) → BaseThere base n l row → sample < n → BaseAt base l row sample
 base-at Row n l row sample h i = omega arith
 base-at (Bits at lower higher) n l row sample h i = omega arith
 base-at (Category category) n l row sample h i = tt
 
-pub base-against : (base : Base) (n : ℕ) (l row : List ℕ) → BaseThere base n l row → Against (rule-of base) n row
+pub base-against : (base : StoredBase) (n : ℕ) (l row : List ℕ) → BaseThere base n l row → Against (rule-of base) n row
 base-against Row n l row h = h
 base-against (Bits at lower higher) n l row h = tt
 base-against (Category category) n l row h = tt
 
 -- a list off a pair asks no row, and the others have there what they are against
-pub same-rule : (base : Base) (l row : List ℕ) (sample value : ℕ)
+pub same-rule : (base : StoredBase) (l row : List ℕ) (sample value : ℕ)
     → allows (rule-of base) (getD row sample 0) value ≡ allows (rule-of base) (category-before base l row sample) value
 same-rule Row l row sample value = refl
 same-rule (Bits at lower higher) l row sample value = refl
@@ -80,7 +79,7 @@ same-rule (Category category) l row sample value = refl
 
 -- ---- all of them
 
-module _ (base : Base) (l row : List ℕ) where
+module _ (base : StoredBase) (l row : List ℕ) where
   pub before-length : (sample count : ℕ) → length (categories-before base l row sample count) ≡ count
   unfolding categories-before
   before-length sample zero = refl

@@ -1,6 +1,6 @@
 -- The heterozygous ones of packed categories: as many as the bytes' bits that stand for them, and how a loop counts them.
 -- Assumes nothing.
-use mathlib.Core.Path.{_≡_, refl, sym, ap, _∙_}
+use mathlib.Core.Path.{_≡_, refl}
 use Prim.Native.Nat.{ℕ, zero, suc, _+_, _-_, _*_, _^_, _/_, _%_, _<_, _≤_}
 use native.Mathlib.Omega.{arith}
 use native.Mathlib.Nat.{pow-suc}
@@ -9,6 +9,7 @@ use mathlib.Core.List.{List, [], _∷_}
 use lib.ListN.{length, getD, drop, drop-of-length-le}
 use lib.Seq.{drop-cons}
 use lib.Dec.{eqb, eqb→eq}
+use lib.Bits.{bitAnd}
 use lib.Count
 use mir.Syntax.{w8, w32}
 use mir.Val.{Fits}
@@ -16,16 +17,17 @@ use Rattle.format.specs.Base.{Below}
 use Rattle.format.specs.Limits.{most-samples}
 use Rattle.format.specs.Packed.{two, byte-of, packed-after, packed}
 use Rattle.format.specs.Phase.{heterozygous-count}
-use Rattle.format.proofs.AllBelow.{all-below, below-all}
-use Rattle.base_calls.specs.Calls.{call-count}
-use Rattle.base_calls.proofs.CallLaws.{call-few, count-cons}
-use Rattle.read_count.specs.Bytes.{four-calls, call-bits, byte-calls}
+use Rattle.format.proofs.AllBelow.{below-all}
+use Rattle.base_calls.specs.CallCount.{call-count}
+use Rattle.base_calls.proofs.CallCountLaws.{call-few, count-cons}
+use Rattle.read_count.specs.Bytes.{four-calls, byte-calls}
 
 -- ---- one byte: a test of all, which antt computes
 
-bits-rule : (b : ℕ) → b < 256 → Count.ones (call-bits b) ≡ four-calls b
+pub bits-rule : (b : ℕ) → Fits w8 b → Count.ones (bitAnd (bitAnd b (255 - b / 2)) 0x55) ≡ four-calls b
 unfolding call-count Count.ones Count.onesIn
-bits-rule b h = eqb→eq _ _ (below-all 256 (λ x. eqb (Count.ones (call-bits x)) (four-calls x)) tt b h)
+bits-rule b h =
+    eqb→eq _ _ (below-all 256 (λ x. eqb (Count.ones (bitAnd (bitAnd x (255 - x / 2)) 0x55)) (four-calls x)) tt b (h .fits))
 
 four-most : (b : ℕ) → four-calls b ≤ 4
 four-most b = omega (arith, call-few (b % 4), call-few (b / 4 % 4), call-few (b / 16 % 4), call-few (b / 64))
@@ -92,10 +94,7 @@ pub no-calls-counted : (part : List ℕ) → length part ≤ most-samples → Co
 no-calls-counted part h = record { reached = omega arith; short = h; few = omega arith; whole = omega arith }
 
 module _ (part : List ℕ) (count i : ℕ) (w : CountingCalls part count i) where
-  module _ (h : i < length part) (known : (i : ℕ) → Fits w8 (getD part i 0)) (x : ℕ) (e : x ≡ call-bits (getD part i 0)) where
-    is : Count.ones x ≡ four-calls (getD part i 0)
-    is = rw e (bits-rule (getD part i 0) (known i .fits))
-
+  module _ (h : i < length part) (x : ℕ) (is : Count.ones x ≡ four-calls (getD part i 0)) where
     pub calls-room : Fits w32 (count + Count.ones x)
     calls-room = record { fits = omega (arith, is, four-most (getD part i 0)) }
 

@@ -28,10 +28,10 @@ use Rattle.read_list.proofs.WholeLaws.{put-not, put-none, put-unfit, put-fits, 
 use Rattle.read_list.proofs.EntriesAgree.{applied, cleared}
 use Rattle.read_list.proofs.ListAgrees.{list-agrees}
 use Rattle.read_list.proofs.Agrees.{getD-any}
-use Rattle.read_count.specs.Against.{rule-of, base-row}
+use Rattle.read_count.specs.Bases.{rule-of, base-row}
 use Rattle.read_count.specs.Counted.{count-replied, counted, counted-left}
-use Rattle.read_count.specs.declared.Base.{Base}
-use Rattle.read_count.specs.declared.Base.the-variants.{Row}
+use Rattle.read_count.specs.declared.StoredBase.{StoredBase}
+use Rattle.read_count.specs.declared.StoredBase.the-variants.{Row}
 use Rattle.read_count.specs.declared.CountedStep.{CountedStep}
 use Rattle.read_count.specs.declared.CountedStep.the-variants.{Counted, Refused}
 use Rattle.read_count.proofs.BaseLaws.{before-length, row-is}
@@ -47,7 +47,7 @@ unfolding counted-left
 applied-count end n row (ok es left) = refl
 applied-count end n row (refused why) = refl
 
-module _ (l : List ℕ) (at n : ℕ) (base : Base) (row : List ℕ) (known : Known l) (a : at ≤ length l) where
+module _ (l : List ℕ) (at n : ℕ) (base : StoredBase) (row : List ℕ) (known : Known l) (a : at ≤ length l) where
   abbrev held : ListRule
   held = rule-of base
 

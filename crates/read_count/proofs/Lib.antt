@@ -1,6 +1,6 @@
 pub mod BaseLaws
 pub mod CallBytes
-pub mod CountLaws
+pub mod CountedEntryLaws
 pub mod TallyLaws
 pub mod CountAgrees
-pub mod TrackLaws
+pub mod CountedTrackLaws

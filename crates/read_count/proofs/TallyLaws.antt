@@ -1,4 +1,4 @@
--- A turn of the loop of `count_short_steps`, and what it does for the walk that it is part of.
+-- A turn of the loop of `count_run`, and what it does for the walk that it is part of.
 -- Assumes nothing.
 use mathlib.Core.Path.{_≡_, refl}
 use Prim.Native.Nat.{ℕ, suc, _+_, _-_, _/_, _<_}
@@ -10,8 +10,8 @@ use mir.Syntax.{w64}
 use mir.Val.{Fits}
 use borrow.Author.Tests.{not-false}
 use Rattle.format.proofs.PhaseLaws.{heterozygous-count-most}
-use Rattle.base_calls.specs.Calls.{call-count}
-use Rattle.base_calls.proofs.CallLaws.{call-few}
+use Rattle.base_calls.specs.CallCount.{call-count}
+use Rattle.base_calls.proofs.CallCountLaws.{call-few}
 use Rattle.base_cursor.specs.Steps.{short-at}
 use Rattle.base_cursor.specs.declared.Cursor.{Cursor}
 use Rattle.base_cursor.specs.declared.ShortStep.{ShortStep}
@@ -25,14 +25,14 @@ use Rattle.read_list.proofs.NumberLaws.{Known}
 use Rattle.read_list.proofs.EntryLaws.{against-sample, check-on, check-entry-on}
 use Rattle.read_list.proofs.RoomLaws.{checked-room}
 use Rattle.read_list.proofs.LoopLaws.{short-sample}
-use Rattle.read_count.specs.Against.{rule-of, category-before, BaseAt}
+use Rattle.read_count.specs.Bases.{rule-of, category-before, BaseAt}
 use Rattle.read_count.specs.Tallied.{Counting, Standing, Stepping}
-use Rattle.read_count.specs.declared.Base.{Base}
+use Rattle.read_count.specs.declared.StoredBase.{StoredBase}
 use Rattle.read_count.specs.declared.Tally.{Tally}
 use Rattle.read_count.proofs.BaseLaws.{base-at, base-against, before-length}
-use Rattle.read_count.proofs.CountLaws.{Passes, entry-passes, tally, count-on}
+use Rattle.read_count.proofs.CountedEntryLaws.{Passes, entry-passes, tally, count-on}
 
-module _ {l : List ℕ} {n vals : ℕ} {base : Base} {row : List ℕ} where
+module _ {l : List ℕ} {n vals : ℕ} {base : StoredBase} {row : List ℕ} where
   -- a walk stands where it is
   pub count-standing : {count : ℕ} {first : State} {t : Tally} → Counting l n vals base count first row t → Standing l n vals base row t
   count-standing w = record {

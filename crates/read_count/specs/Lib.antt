@@ -1,4 +1,4 @@
-pub mod Against
+pub mod Bases
 pub mod Tallied
 pub mod Counted
 pub mod Bytes

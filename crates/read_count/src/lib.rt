@@ -17,11 +17,12 @@ ghost use mathlib.Core.Bool.{true};
 ghost use mathlib.Core.List.{[]};
 ghost use Prim.Native.Nat.{_≤_, _<_};
 ghost use lib.ListN.{length};
+ghost use lib.Count;
 ghost use Rattle.format.specs.Base.{pick};
 ghost use Rattle.format.specs.Limits.{most-samples};
 ghost use Rattle.format.specs.Phase.{heterozygous};
 ghost use Rattle.format.specs.Track.{array, paired, kind, leans};
-ghost use Rattle.read_count.specs.Bytes.{call-bits, byte-calls};
+ghost use Rattle.read_count.specs.Bytes.{four-calls, byte-calls};
 ghost use Rattle.read_count.specs.Tracks.{bits-counted, track-counted};
 
 pub mod list;
@@ -31,7 +32,7 @@ use crate::list::count_list;
 
 // What a list is against where it is counted: a row's categories; the categories of a pair, the lower and the higher, that the bits from a place on stand for;
 // one category.
-pub enum Base {
+pub enum StoredBase {
     Row,
     Bits(usize, u8, u8),
     Category(u8),
@@ -52,9 +53,9 @@ pub struct Tally {
     pub lost: usize,
 }
 
-// A bit for each heterozygous one of a byte's four categories: its low bit, where the high one is clear.
+// A bit for each heterozygous one of a byte's four categories: the low bit of each, where its high bit is clear.
 fn call_bits(b: u8) -> u8
-    ensures { λ r. ⌜ r ≡ call-bits b ⌝ }
+    ensures { λ r. ⌜ Count.ones r ≡ four-calls b ⌝ }
 {
     b & !(b >> 1) & 0x55
 }
@@ -95,7 +96,7 @@ fn alike_calls(category: u8, count: usize) -> usize
 }
 
 // "a bit per sample (set: the higher category of the pair), then a list of pairs for samples in the other two categories"
-fn count_bits(s: &[u8], c: Cursor, n: usize, lower: u8, higher: u8) -> CountedStep
+fn count_under_code(s: &[u8], c: Cursor, n: usize, lower: u8, higher: u8) -> CountedStep
     requires { ⌜ (c .at ≤ length (now s)) × (n ≤ most-samples) ⌝ }
     ensures { λ r. ⌜ r ≡ bits-counted lower higher n (now (s .entry)) (c .at) ⌝ }
 {
@@ -108,7 +109,7 @@ fn count_bits(s: &[u8], c: Cursor, n: usize, lower: u8, higher: u8) -> CountedSt
             let ones = ones_in(&s[at..end]);
             let h = alike_calls(higher, ones) + alike_calls(lower, n - ones);
             // no row is looked at: the list is against the bits
-            count_list(s, n, Base::Bits(at, lower, higher), next, &s[..0], h)
+            count_list(s, n, StoredBase::Bits(at, lower, higher), next, &s[..0], h)
         }
     }
 }
@@ -125,7 +126,7 @@ fn count_pair(s: &[u8], c: Cursor, n: usize) -> CountedStep
             let found = base_pairs::pair_of(code);
             match found {
                 PairFound::Unknown => CountedStep::Refused(refusal_at(14, c.at)),
-                PairFound::Known(pair) => count_bits(s, next, n, pair.lower, pair.higher),
+                PairFound::Known(pair) => count_under_code(s, next, n, pair.lower, pair.higher),
             }
         }
     }
@@ -148,5 +149,5 @@ pub fn count_track(s: &[u8], c: Cursor, n: usize, number: u8, row: &[u8]) -> Cou
         return count_leaning(s, n, c, row, heterozygous_count(row, n));
     }
     // "Kinds 4, 6, 7: a list of the samples outside category 0, 2, 3": none of these is heterozygous
-    count_list(s, n, Base::Category(number - 4), c, row, 0)
+    count_list(s, n, StoredBase::Category(number - 4), c, row, 0)
 }

@@ -1,6 +1,6 @@
 // A difference list only checked, and the heterozygous samples counted of what it makes of that which it is against. Neither is a row made nor one changed.
-use crate::Base;
 use crate::CountedStep;
+use crate::StoredBase;
 use crate::Tally;
 use base_calls::call_count;
 use base_cursor::Cursor;
@@ -24,47 +24,40 @@ ghost use Rattle.format.specs.Phase.{heterozygous-count};
 ghost use Rattle.read_list.specs.declared.ListRule.the-variants.{OffRow};
 ghost use Rattle.read_list.specs.Room.{Room, EntryReady};
 ghost use Rattle.read_list.specs.Entries.{Against, check-entry, put-entries};
-ghost use Rattle.read_count.specs.Against.{rule-of, category-before, base-row, BaseAt, BaseThere};
+ghost use Rattle.read_count.specs.Bases.{rule-of, category-before, base-row, BaseAt, BaseThere};
 ghost use Rattle.read_count.specs.Tallied.{Standing, Stepping};
 ghost use Rattle.read_count.specs.Counted.{counted-left, counted};
 
 // 01, Categories and kinds: "No list holds a value it need not".
-fn rule_of(base: Base) -> ListRule
+fn rule_of(base: StoredBase) -> ListRule
     ensures { λ r. ⌜ r ≡ rule-of base ⌝ }
 {
     match base {
-        Base::Row => ListRule::OffRow,
-        Base::Bits(_, lower, higher) => ListRule::OffPair(lower, higher),
-        Base::Category(category) => ListRule::OffPair(category, category),
+        StoredBase::Row => ListRule::OffRow,
+        StoredBase::Bits(_, lower, higher) => ListRule::OffPair(lower, higher),
+        StoredBase::Category(category) => ListRule::OffPair(category, category),
     }
 }
 
 // The category that a sample has without the list.
-fn category_before(s: &[u8], base: Base, row: &[u8], sample: usize) -> u8
+fn category_before(s: &[u8], base: StoredBase, row: &[u8], sample: usize) -> u8
     requires { ⌜ BaseAt base (now s) (now row) sample ⌝ }
     ensures { λ r. ⌜ r ≡ category-before base (now (s .entry)) (now (row .entry)) sample ⌝ }
 {
     match base {
-        Base::Row => row[sample],
-        Base::Bits(at, lower, higher) => {
+        StoredBase::Row => row[sample],
+        StoredBase::Bits(at, lower, higher) => {
             if read_packed::one_bit(s, at, sample) == 0 {
                 return lower;
             }
             higher
         }
-        Base::Category(category) => category,
+        StoredBase::Category(category) => category,
     }
 }
 
-// Steps of a byte or two that are accepted, as many as come one after another: a loop of its own, since it needs to carry so little.
-fn count_short_steps(
-    s: &[u8],
-    n: usize,
-    values: usize,
-    base: Base,
-    from: Tally,
-    row: &[u8],
-) -> Tally
+// A run of steps of a byte or two that are accepted, as many as come one after another: a loop of its own, since it needs to carry so little.
+fn count_run(s: &[u8], n: usize, values: usize, base: StoredBase, from: Tally, row: &[u8]) -> Tally
     requires { ⌜ Standing (now s) n values base (now row) from ⌝ }
     ensures { λ r. ⌜ Stepping (now (s .entry)) n values base (now (row .entry)) from r ⌝ }
 {
@@ -138,7 +131,7 @@ fn count_entries(
     s: &[u8],
     n: usize,
     values: usize,
-    base: Base,
+    base: StoredBase,
     first: Tally,
     row: &[u8],
 ) -> CountedStep
@@ -166,7 +159,7 @@ fn count_entries(
                     had: t.had + (call_count(value) as usize),
                     lost: t.lost + (call_count(old) as usize),
                 };
-                t = count_short_steps(s, n, values, base, from, row);
+                t = count_run(s, n, values, base, from, row);
             }
         }
     }
@@ -177,7 +170,14 @@ fn count_entries(
 
 // The list at `c`, of n samples, against what `base` says, of which h are heterozygous: the cursor after it with the count of what it makes of them, or a
 // refusal.
-pub fn count_list(s: &[u8], n: usize, base: Base, c: Cursor, row: &[u8], h: usize) -> CountedStep
+pub fn count_list(
+    s: &[u8],
+    n: usize,
+    base: StoredBase,
+    c: Cursor,
+    row: &[u8],
+    h: usize,
+) -> CountedStep
     requires { ⌜ (c .at ≤ length (now s)) × (n ≤ most-samples) × BaseThere base n (now s) (now row) ⌝ }
     requires { ⌜ h ≡ heterozygous-count (base-row base n (now s) (now row)) ⌝ }
     ensures { λ r. ⌜ r ≡ counted (rule-of base) (base-row base n (now (s .entry)) (now (row .entry))) n (now (s .entry)) (c .at) ⌝ }
@@ -212,5 +212,5 @@ pub fn count_leaning(s: &[u8], n: usize, c: Cursor, row: &[u8], h: usize) -> Cou
     requires { ⌜ h ≡ heterozygous-count (take n (now row)) ⌝ }
     ensures { λ r. ⌜ r ≡ counted OffRow (take n (now (row .entry))) n (now (s .entry)) (c .at) ⌝ }
 {
-    count_list(s, n, Base::Row, c, row, h)
+    count_list(s, n, StoredBase::Row, c, row, h)
 }

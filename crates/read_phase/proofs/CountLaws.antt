@@ -12,8 +12,8 @@ use mir.Val.{Fits}
 use Rattle.format.specs.Limits.{most-samples}
 use Rattle.format.specs.Phase.{heterozygous-count}
 use Rattle.format.proofs.PhaseLaws.{heterozygous-count-most}
-use Rattle.base_calls.specs.Calls.{call-count}
-use Rattle.base_calls.proofs.CallLaws.{call-few, count-cons}
+use Rattle.base_calls.specs.CallCount.{call-count}
+use Rattle.base_calls.proofs.CallCountLaws.{call-few, count-cons}
 
 -- ---- H of a list, sample by sample
 

@@ -10,8 +10,8 @@ use lib.Seq.{length-take-le, take-append-le, drop-append-le, take-at, drop-at, t
 use Rattle.format.specs.Base.{pick}
 use Rattle.format.specs.Phase.{heterozygous, heterozygous-count, first-of, rest-of, spread}
 use Rattle.format.proofs.PhaseLaws.{heterozygous-count-most}
-use Rattle.base_calls.specs.Calls.{call-count}
-use Rattle.base_calls.proofs.CallLaws.{count-cons}
+use Rattle.base_calls.specs.CallCount.{call-count}
+use Rattle.base_calls.proofs.CallCountLaws.{count-cons}
 use Rattle.read_phase.specs.Parts.{spread-from}
 use Rattle.read_phase.proofs.CountLaws.{count-none, count-append, cut}
 

@@ -10,8 +10,8 @@ use mir.Syntax.{w8}
 use mir.Val.{Fits}
 use Rattle.format.specs.Phase.{heterozygous-count}
 use Rattle.format.proofs.PhaseLaws.{heterozygous-count-most}
-use Rattle.base_calls.specs.Calls.{call-count}
-use Rattle.base_calls.proofs.CallLaws.{call-few, count-cons}
+use Rattle.base_calls.specs.CallCount.{call-count}
+use Rattle.base_calls.proofs.CallCountLaws.{call-few, count-cons}
 use Rattle.read_phase.specs.Parts.{spread-from}
 use Rattle.read_phase.proofs.CountLaws.{count-none, count-append}
 use Rattle.read_phase.proofs.SpreadLaws.{front-kept, none-done, more-done, sample-done, calls-before, part-done}

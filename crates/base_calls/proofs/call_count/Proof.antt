@@ -1,7 +1,7 @@
 -- `base_calls::call_count` meets its contract.
 -- Assumes nothing.
 use borrow.Author.Needs.{needs}
-use Rattle.base_calls.proofs.CallLaws.{call-laws}
+use Rattle.base_calls.proofs.CallCountLaws.{call-laws}
 use Rattle.base_calls.proofs.call_count.Statement.{statement}
 use Rattle.base_calls.proofs.call_count.Tie as tie
 

@@ -1,7 +1,7 @@
 -- `read_count::alike_calls` meets its contract.
 -- Assumes nothing.
 use borrow.Author.Needs.{needs}
-use Rattle.read_count.proofs.TrackLaws.{alike-laws}
+use Rattle.read_count.proofs.CountedTrackLaws.{alike-laws}
 use Rattle.read_count.proofs.alike_calls.Statement.{statement}
 use Rattle.read_count.proofs.alike_calls.Tie as tie
 

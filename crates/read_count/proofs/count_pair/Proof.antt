@@ -1,7 +1,7 @@
 -- `read_count::count_pair` meets its contract.
 -- Assumes nothing.
 use borrow.Author.Needs.{needs}
-use Rattle.read_count.proofs.TrackLaws.{pair-laws}
+use Rattle.read_count.proofs.CountedTrackLaws.{pair-laws}
 use Rattle.read_count.proofs.count_pair.Statement.{statement}
 use Rattle.read_count.proofs.count_pair.Tie as tie
 

@@ -1,7 +1,7 @@
 -- `read_count::count_plain` meets its contract.
 -- Assumes nothing.
 use borrow.Author.Needs.{needs}
-use Rattle.read_count.proofs.TrackLaws.{plain-laws}
+use Rattle.read_count.proofs.CountedTrackLaws.{plain-laws}
 use Rattle.read_count.proofs.count_plain.Statement.{statement}
 use Rattle.read_count.proofs.count_plain.Tie as tie
 

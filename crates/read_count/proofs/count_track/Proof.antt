@@ -1,7 +1,7 @@
 -- `read_count::count_track` meets its contract.
 -- Assumes nothing.
 use borrow.Author.Needs.{needs}
-use Rattle.read_count.proofs.TrackLaws.{track-laws}
+use Rattle.read_count.proofs.CountedTrackLaws.{track-laws}
 use Rattle.read_count.proofs.count_track.Statement.{statement}
 use Rattle.read_count.proofs.count_track.Tie as tie
 

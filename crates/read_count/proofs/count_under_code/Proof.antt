@@ -1,13 +1,13 @@
--- `read_count::count_bits` meets its contract.
+-- `read_count::count_under_code` meets its contract.
 -- Assumes nothing.
 use mathlib.Core.Path.{refl}
 use borrow.Author.Needs.{needs}
-use Rattle.read_count.proofs.TrackLaws.{bits-laws, calls-are}
-use Rattle.read_count.proofs.count_bits.Statement.{statement}
-use Rattle.read_count.proofs.count_bits.Tie as tie
+use Rattle.read_count.proofs.CountedTrackLaws.{bits-laws, calls-are}
+use Rattle.read_count.proofs.count_under_code.Statement.{statement}
+use Rattle.read_count.proofs.count_under_code.Tie as tie
 
-pub count-bits-spec : {M : Type 1} → statement M
-count-bits-spec =
+pub count-under-code-spec : {M : Type 1} → statement M
+count-under-code-spec =
     tie.close
     (tie.spec
     (λ c κs. search (bits-laws, needs))

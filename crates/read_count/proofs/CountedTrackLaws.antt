@@ -16,18 +16,17 @@ use Rattle.format.specs.Limits.{most-samples}
 use Rattle.format.specs.Packed.{Bits, one, two, packed-size, read-packed}
 use Rattle.format.specs.Difflist.{Entry, number-width, read-list}
 use Rattle.format.specs.PairCode.{PairCode, pair, category-of, found}
-use Rattle.format.specs.Track.{array, paired, kind, leans-kind, leans, Track, plain, one-bit, leaning, sparse, apply, read-pair-code}
+use Rattle.format.specs.Track.{array, paired, kind, leans-kind, leans, plain, one-bit, leaning, sparse, apply, read-pair-code}
 use Rattle.format.specs.Track.{rule, off-pair, off-anchor, off-category, bit-set, read-listed, read-kind}
 use Rattle.format.specs.Phase.{heterozygous, heterozygous-count, ones}
-use Rattle.format.specs.Body.{track-heterozygous}
 use Rattle.format.specs.declared.Pair.{Pair}
 use Rattle.format.specs.declared.PairFound.{PairFound}
 use Rattle.format.specs.declared.PairFound.the-variants.{Known, Unknown}
 use Rattle.format.proofs.PhaseFlipLaws.{heterozygous-exchange}
-use Rattle.base_calls.specs.Calls.{call-count}
-use Rattle.base_calls.proofs.CallLaws.{count-cons}
+use Rattle.base_calls.specs.CallCount.{call-count}
+use Rattle.base_calls.proofs.CallCountLaws.{count-cons}
 use Rattle.base_cursor.specs.declared.Cursor.{Cursor}
-use Rattle.base_cursor.specs.Steps.{before, byte-at}
+use Rattle.base_cursor.specs.Steps.{byte-at}
 use Rattle.base_cursor.specs.declared.ByteStep.{ByteStep}
 use Rattle.base_cursor.specs.declared.ByteStep.the-variants.{Byte, Refused as NoByte}
 use Rattle.head_index.specs.NumbersAt.{digits-at}
@@ -42,12 +41,11 @@ use Rattle.read_record.specs.Rows.{off-both}
 use Rattle.read_record.proofs.RuleLaws.{list-same}
 use Rattle.read_record.proofs.CodeLaws.{code-inside, under-code, UnderCode, code-missing, code-unknown, code-known}
 use Rattle.read_record.proofs.BodyLaws.{leaning-kind, sparse-kind}
-use Rattle.read_count.specs.Against.{rule-of, base-row, BaseThere}
+use Rattle.read_count.specs.Bases.{base-row, BaseThere}
 use Rattle.read_count.specs.Bytes.{byte-calls}
 use Rattle.read_count.specs.Counted.{count-replied, counted}
 use Rattle.read_count.specs.Tracks.{track-told, track-counted, bits-told, bits-counted}
-use Rattle.read_count.specs.declared.Base.{Base}
-use Rattle.read_count.specs.declared.Base.the-variants as base
+use Rattle.read_count.specs.declared.StoredBase.the-variants as base
 use Rattle.read_count.specs.declared.CountedStep.{CountedStep}
 use Rattle.read_count.specs.declared.CountedStep.the-variants.{Counted, Refused}
 use Rattle.read_count.proofs.BaseLaws.{bits-are, category-is}

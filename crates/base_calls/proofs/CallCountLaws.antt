@@ -8,7 +8,7 @@ use mathlib.Core.List.{List, _∷_}
 use lib.Dec.{eqb}
 use Rattle.format.specs.Base.{pick}
 use Rattle.format.specs.Phase.{heterozygous, heterozygous-count}
-use Rattle.base_calls.specs.Calls.{call-count}
+use Rattle.base_calls.specs.CallCount.{call-count}
 
 -- ---- the ways out of `call_count`
 

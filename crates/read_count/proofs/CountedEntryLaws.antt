@@ -15,8 +15,8 @@ use Rattle.format.specs.Limits.{most-samples}
 use Rattle.format.specs.Phase.{heterozygous-count}
 use Rattle.format.proofs.Rules.{by-test}
 use Rattle.format.proofs.PhaseLaws.{heterozygous-count-most}
-use Rattle.base_calls.specs.Calls.{call-count}
-use Rattle.base_calls.proofs.CallLaws.{call-few, count-cons}
+use Rattle.base_calls.specs.CallCount.{call-count}
+use Rattle.base_calls.proofs.CallCountLaws.{call-few, count-cons}
 use Rattle.read_list.specs.Entries.{value-at, allows, Against, next-sample, bump, turn, put-value, put-entry, put-entries, check-value, check-entry}
 use Rattle.read_list.specs.Room.{EntryReady, Room}
 use Rattle.read_list.specs.declared.ListRule.{ListRule}
@@ -26,10 +26,10 @@ use Rattle.read_list.specs.declared.EntryStep.the-variants as entry
 use Rattle.read_list.proofs.NumberLaws.{Known}
 use Rattle.read_list.proofs.SampleLaws.{Goes, Below, sample-below}
 use Rattle.read_list.proofs.LoopLaws.{put-start, put-end, put-ready, put-value-there, put-stop, put-on-room, put-on-with}
-use Rattle.read_count.specs.Against.{rule-of, category-before, base-row, BaseAt, BaseThere}
+use Rattle.read_count.specs.Bases.{rule-of, category-before, base-row, BaseAt, BaseThere}
 use Rattle.read_count.specs.Tallied.{Counting}
 use Rattle.read_count.specs.Counted.{counted-left}
-use Rattle.read_count.specs.declared.Base.{Base}
+use Rattle.read_count.specs.declared.StoredBase.{StoredBase}
 use Rattle.read_count.specs.declared.Tally.{Tally}
 use Rattle.read_count.specs.declared.CountedStep.{CountedStep}
 use Rattle.read_count.specs.declared.CountedStep.the-variants.{Counted, Refused}
@@ -92,7 +92,7 @@ module _ (l : List ℕ) (n vals : ℕ) (held : ListRule) (row : List ℕ) (st : 
 abbrev pub tally : State → ℕ → ℕ → ℕ → Tally
 tally st more had lost = record { st = st; more = more; had = had; lost = lost }
 
-module _ {l : List ℕ} {n vals : ℕ} {base : Base} {row : List ℕ} where
+module _ {l : List ℕ} {n vals : ℕ} {base : StoredBase} {row : List ℕ} where
   pub count-start : {t : Tally} → Room l n vals (t .more) (t .st) → n ≤ most-samples → BaseThere base n l row
       → t .had ≡ heterozygous-count (base-row base n l row) → t .lost ≡ 0 → Counting l n vals base (t .more) (t .st) row t
   count-start r k g e z = record {
