@@ -1,24 +1,22 @@
 -- The main track of a record that stands at a place, as code passes it: where it ends, and how many of its samples are heterozygous.
 -- Assumes nothing.
 use mathlib.Core.Path.{_≡_, refl, sym, ap, ap₂, _∙_, subst}
-use Prim.Native.Nat.{ℕ, _+_, _-_, _^_, _≤_, _<_}
+use Prim.Native.Nat.{ℕ, _+_, _-_, _^_, _<_}
 use native.Mathlib.Omega.{arith}
 use native.Mathlib.Nat.{mod-lt}
 use mathlib.Core.Bool.{Bool, true, false}
-use mathlib.Core.List.{List, [], _∷_, _++_, append-assoc}
-use lib.ListN.{length, take, drop, length-append, length-take}
+use mathlib.Core.List.{List, _++_}
+use lib.ListN.{length, take, drop}
 use lib.Seq.{take-at, drop-at}
-use lib.Dec.{eqb, lit<}
+use lib.Dec.{lit<}
 use borrow.Author.Tests.{eq-eqb}
 use Rattle.format.specs.declared.Refusal.{Refusal}
 use Rattle.format.specs.Base.{Out, ok, map-out}
-use Rattle.format.specs.Limits.{most-samples}
-use Rattle.format.specs.Category.{exchange-all}
-use Rattle.format.specs.Difflist.{Entry, Rising, number-width, list-bytes, read-list}
+use Rattle.format.specs.Difflist.{Entry, number-width, read-list}
 use Rattle.format.specs.Track.{kind, Track, plain, one-bit, leaning, sparse, track-kind, track-leans, off-anchor, rule, Fits, track-bytes, read-kind}
 use Rattle.format.specs.Track.{apply, track-categories}
 use Rattle.format.specs.Phase.{heterozygous-count, phases-bytes}
-use Rattle.format.specs.Body.{kind-of, type-leans, Body, body-leans, body-categories, track-heterozygous}
+use Rattle.format.specs.Body.{kind-of, type-leans, body-categories, track-heterozygous}
 use Rattle.format.proofs.Rules.{never-both}
 use Rattle.format.proofs.DifflistLaws.{list-read-back}
 use Rattle.format.proofs.TrackLaws.{wide-enough, track-read-back}
@@ -28,14 +26,14 @@ use Rattle.format.proofs.FlipTypeLaws.{track-kind-not-5}
 use Rattle.format.proofs.PhaseFlipLaws.{heterozygous-exchange}
 use Rattle.base_cursor.specs.declared.Cursor.{Cursor}
 use Rattle.base_cursor.specs.Steps.{before}
-use Rattle.read_count.specs.declared.CountedStep.{CountedStep}
-use Rattle.read_count.specs.declared.CountedStep.the-variants as counts
+use Rattle.read_calls.specs.declared.CallsStep.{CallsStep}
+use Rattle.read_calls.specs.declared.CallsStep.the-variants as counts
 use Rattle.read_list.specs.declared.ListRule.the-variants.{OffRow}
 use Rattle.read_list.specs.declared.ListStep.{ListStep}
 use Rattle.read_list.specs.declared.ListStep.the-variants as list
-use Rattle.read_list.specs.Entries.{ListLeft, list-left}
+use Rattle.read_list.specs.Entries.{list-left}
 use Rattle.read_list.specs.Listed.{list-at}
-use Rattle.read_count.specs.Counted.{count-replied, counted}
+use Rattle.read_calls.specs.Counted.{count-replied, counted}
 use Rattle.read_record.specs.Rows.{wiped, stored, kind-categories, tracked}
 use Rattle.head_places.specs.declared.Place.{Place}
 use Rattle.flip_phase.specs.declared.Main.{Main}
@@ -75,7 +73,8 @@ module _ {n : ℕ} {p : Place} {row file : List ℕ} (w : RecordThere n p row fi
       ∙ list-read-back (rule n (off-anchor (take n row))) (number-width n) (length cut) (x .entries) left few (wide-enough n (w .few))
       (subst (Fits n (take n row)) (x .is) (w .fits .0))
 
-  counted-there : (x : Leaner) → counted OffRow (take n row) n cut (p .start) ≡ counts.Counted (before (length cut) left) (heterozygous-count (apply (x .entries) (take n row)))
+  counted-there : (x : Leaner) → counted OffRow (take n row) n cut (p .start)
+      ≡ counts.Counted (before (length cut) left) (heterozygous-count (apply (x .entries) (take n row)))
   unfolding counted
   counted-there x = ap (count-replied (length cut) (take n row)) (list-there x)
 
@@ -85,19 +84,19 @@ module _ {n : ℕ} {p : Place} {row file : List ℕ} (w : RecordThere n p row fi
       ∙ ap (track-heterozygous n (take n row)) (sym (x .is))
 
 -- the cursor and the count of a list that was counted
-abbrev next-of : CountedStep → ℕ
+abbrev next-of : CallsStep → ℕ
 next-of (counts.Counted c h) = c .at
 next-of (counts.Refused why) = 0
 
-abbrev count-of : CountedStep → ℕ
+abbrev count-of : CallsStep → ℕ
 count-of (counts.Counted c h) = h
 count-of (counts.Refused why) = 0
 
-abbrev is-counted : CountedStep → Bool
+abbrev is-counted : CallsStep → Bool
 is-counted (counts.Counted c h) = true
 is-counted (counts.Refused why) = false
 
-module _ (n : ℕ) (p : Place) (row file : List ℕ) (e : type-leans (p .record_type) ≡ true) (got : CountedStep)
+module _ (n : ℕ) (p : Place) (row file : List ℕ) (e : type-leans (p .record_type) ≡ true) (got : CallsStep)
     (d : got ≡ counted OffRow (take n row) n (take (p .end) file) (p .start)) where
   pub counted-main : (next : Cursor) (h : ℕ) → got ≡ counts.Counted next h → (main : Main) → main ≡ record { end = next; count = h }
       → MainPassed n p row file main

@@ -23,8 +23,8 @@ use head_records::type_of;
 use head_types::kind_of;
 use head_types::type_leans;
 use head_types::type_phased;
-use read_count::CountedStep;
-use read_count::list::count_leaning;
+use read_calls::CallsStep;
+use read_calls::list::count_leaning;
 use read_list::ListStep;
 use read_phase::first_count;
 use read_phase::heterozygous_count;
@@ -61,11 +61,11 @@ fn pass_leaning(file: &[u8], p: Place, n: usize, row: &[u8], h: usize) -> Main
     let here = Cursor { at: p.start };
     let got = count_leaning(&file[..end], n, here, row, h);
     match got {
-        CountedStep::Refused(_) => Main {
+        CallsStep::Refused(_) => Main {
             end: here,
             count: 0,
         },
-        CountedStep::Counted(next, count) => Main { end: next, count },
+        CallsStep::Counted(next, count) => Main { end: next, count },
     }
 }
 

@@ -25,14 +25,14 @@ use Rattle.base_cursor.proofs.ByteLaws.{bytes-of}
 use Rattle.read_record.specs.Recorded.{replied, end-checked}
 use Rattle.read_record.proofs.EndLaws.{after-ends}
 use Rattle.read_record.proofs.TracksLaws.{categories-length}
-use Rattle.read_count.specs.Tracks.{track-told, track-counted}
-use Rattle.read_count.specs.declared.CountedStep.{CountedStep}
-use Rattle.read_count.specs.declared.CountedStep.the-variants as count
+use Rattle.read_calls.specs.Tracks.{track-told, track-counted}
+use Rattle.read_calls.specs.declared.CallsStep.{CallsStep}
+use Rattle.read_calls.specs.declared.CallsStep.the-variants as count
 use Rattle.read_check.specs.Checked.{counted-replied, phased-checked, body-checked}
 
 -- ---- the ways out of `check_phased`: `got` is what `count_track` gave
 
-module _ (l : List ℕ) (start n number : ℕ) (row : List ℕ) (got : CountedStep) (told : got ≡ track-counted (kind number) n l start row) where
+module _ (l : List ℕ) (start n number : ℕ) (row : List ℕ) (got : CallsStep) (told : got ≡ track-counted (kind number) n l start row) where
   pub phased-unread : (why : Refusal) → got ≡ count.Refused why → reply.Refused why ≡ phased-checked (kind number) n l start row
   unfolding phased-checked
   phased-unread why q = rw (← told, q)

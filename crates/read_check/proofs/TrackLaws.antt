@@ -33,7 +33,8 @@ use Rattle.read_record.proofs.RuleLaws.{list-same}
 use Rattle.read_record.proofs.CodeLaws.{code-inside, UnderCode, code-missing, code-unknown, code-known}
 use Rattle.read_record.proofs.BodyLaws.{leaning-kind, sparse-kind}
 use Rattle.read_record.proofs.EndLaws.{stepped-map}
-use Rattle.read_count.proofs.CountedTrackLaws.{not-packed, accepted, next-inside, next-place, off-one, leaner-row}
+use Rattle.read_packed.proofs.CheckLaws.{not-packed, accepted, next-inside, next-place}
+use Rattle.read_calls.proofs.CountedTrackLaws.{off-one, leaner-row}
 use Rattle.read_check.specs.Checked.{track-checked, bits-checked}
 
 -- ---- kind 0
@@ -46,7 +47,7 @@ module _ (l : List ℕ) (start n : ℕ) (got : PackedStep) (told : got ≡ array
   pub plain-next : (next : Cursor) → got ≡ Next next → ((i : ℕ) → Bounded w8 (getD l i 0)) → start ≤ length l
       → Listed next ≡ track-checked array n l start []
   unfolding track-checked read-kind
-  plain-next next q known h = rw (accepted two l start n got told next q known h .reads, next-place two l start n got told next q known h)
+  plain-next next q known h = rw (accepted two l start n got told known h next q .reads, next-place two l start n got told known h next q)
 
 -- ---- kind 1, after its pair code
 
@@ -58,7 +59,7 @@ module _ (l : List ℕ) (at n lower higher : ℕ) (got : PackedStep) (told : got
   pub bits-listed : (next : Cursor) → got ≡ Next next → ((i : ℕ) → Bounded w8 (getD l i 0)) → at ≤ length l
       → (row : List ℕ) (r : ListStep) → r ≡ checked (OffPair lower higher) n l (next .at) row → r ≡ bits-checked lower higher n l at
   unfolding checked bits-checked
-  bits-listed next q known h row r e = rw (accepted one l at n got told next q known h .reads) e
+  bits-listed next q known h row r e = rw (accepted one l at n got told known h next q .reads) e
 
 pub ruleset part-laws = (plain-refused, plain-next, next-inside, bits-refused, bits-listed)
 

@@ -13,9 +13,9 @@ use Rattle.format.specs.declared.Reply.{Reply}
 use Rattle.format.specs.declared.Reply.the-variants.{Refused}
 use Rattle.read_list.specs.Checked.{stepped}
 use Rattle.read_list.specs.declared.ListStep.{ListStep}
-use Rattle.read_count.specs.Tracks.{track-counted}
-use Rattle.read_count.specs.declared.CountedStep.{CountedStep}
-use Rattle.read_count.specs.declared.CountedStep.the-variants as count
+use Rattle.read_calls.specs.Tracks.{track-counted}
+use Rattle.read_calls.specs.declared.CallsStep.{CallsStep}
+use Rattle.read_calls.specs.declared.CallsStep.the-variants as count
 use Rattle.read_record.specs.Rows.{off-both}
 use Rattle.read_record.specs.Recorded.{replied, end-checked}
 
@@ -30,7 +30,7 @@ bits-checked lower higher n l at =
     (bind (read-packed (length l) one n (drop at l)) (λ bits left. read-list (rule n (off-both lower higher)) (number-width n) (length l) left))
 
 -- a record with a phase track. 02, Ask 1: "H is the number of samples in category 1": of its own row
-abbrev pub counted-replied : List ℕ → CountedStep → Reply
+abbrev pub counted-replied : List ℕ → CallsStep → Reply
 counted-replied l (count.Refused why) = Refused why
 counted-replied l (count.Counted next H) = end-checked true H l (next .at)
 

@@ -9,8 +9,8 @@ use format::refusal_at;
 use head_types::kind_of;
 use head_types::type_leans;
 use head_types::type_phased;
-use read_count::CountedStep;
-use read_count::count_track;
+use read_calls::CallsStep;
+use read_calls::count_track;
 use read_list::ListRule;
 use read_list::ListStep;
 use read_list::check::check_list;
@@ -104,8 +104,8 @@ fn check_phased(s: &[u8], c: Cursor, n: usize, number: u8, row: &[u8]) -> Reply
 {
     let counted = count_track(s, c, n, number, row);
     match counted {
-        CountedStep::Refused(why) => Reply::Refused(why),
-        CountedStep::Counted(next, h) => check_phased_end(s, next, h),
+        CallsStep::Refused(why) => Reply::Refused(why),
+        CallsStep::Counted(next, h) => check_phased_end(s, next, h),
     }
 }
 

@@ -90,26 +90,40 @@ module _ (bits : Bits) (l : List ℕ) (at n : ℕ) where
       through (ok vs left) q = absurd (let z : _≡_ {A = ℕ} 0 1 = cc in omega arith)
       through (refused because) q = cc
 
--- ---- the two ways out of each unpacking: `got` is what the check gave
+-- ---- what the check gave, `got`
+
+module _ (bits : Bits) (l : List ℕ) (at n : ℕ) (got : PackedStep) (e : got ≡ array-at bits n l at) where
+  pub not-packed : (why : Refusal) → got ≡ Refused why → read-packed (length l) bits n (drop at l) ≡ refused why
+  not-packed why q = was-refused bits l at n why (sym q ∙ e)
+
+  module _ (known : (i : ℕ) → Fits w8 (getD l i 0)) (h : at ≤ length l) (end : Cursor) (q : got ≡ Next end) where
+    pub accepted : Accepted bits l at n end
+    accepted = was-accepted bits l at n end (λ i. known i .fits) h (sym q ∙ e)
+
+    pub next-inside : end .at ≤ length l
+    next-inside = rw (accepted .ends) (accepted .inside)
+
+    pub next-after : at ≤ end .at
+    next-after = rw (accepted .ends) (omega arith)
+
+    pub next-place : length l - length (drop (end .at) l) ≡ end .at
+    next-place = rw (accepted .ends) (here l (at + packed-size bits n) (accepted .inside))
+
+-- ---- the two ways out of each unpacking
 
 module _ (bits : Bits) (l : List ℕ) (at n : ℕ) (got : PackedStep) (e : got ≡ array-at bits n l at) where
   abbrev Unpacks : (List ℕ → List ℕ) → List ℕ → UnpackLeft → Type 0
   Unpacks g row left = left ≡ unpacked (length l) g n row (read-packed (length l) bits n (drop at l))
 
   untouched : (g : List ℕ → List ℕ) (row : List ℕ) (why : Refusal) → got ≡ Refused why → Unpacks g row (unpack-left (Refused why) row)
-  untouched g row why q = rw (was-refused bits l at n why (sym q ∙ e))
+  untouched g row why q = rw (not-packed bits l at n got e why q)
 
   module _ (known : (i : ℕ) → Fits w8 (getD l i 0)) (h : at ≤ length l) (end : Cursor) (q : got ≡ Next end) where
-    accepted : Accepted bits l at n end
-    accepted = was-accepted bits l at n end (λ i. known i .fits) h (sym q ∙ e)
-
     pub array-room : at + packed-size bits n ≤ length l
-    array-room = accepted .inside
+    array-room = accepted bits l at n got e known h end q .inside
 
     stored : (g : List ℕ → List ℕ) (row new : List ℕ) → new ≡ g (digits-at bits (drop at l) 0 n) ++ drop n row → Unpacks g row (unpack-left (Next end) new)
-    stored g row new f =
-        let p : length l - length (drop (end .at) l) ≡ end .at = rw (accepted .ends) (here l (at + packed-size bits n) (accepted .inside)) in
-        rw (accepted .reads, p, f)
+    stored g row new f = rw (accepted bits l at n got e known h end q .reads, next-place bits l at n got e known h end q, f)
 
 module _ (l : List ℕ) (at n : ℕ) (got : PackedStep) (e : got ≡ array-at two n l at) (row : List ℕ) where
   pub two-refused : (why : Refusal) → got ≡ Refused why → unpack-left (Refused why) row ≡ unpacked-two n l at row

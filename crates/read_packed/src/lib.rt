@@ -195,7 +195,7 @@ pub fn unpack_categories(s: &[u8], c: Cursor, n: usize, row: &mut [u8]) -> Packe
 }
 
 // The category of a pair that a bit stands for.
-fn of_pair(bit: u8, lower: u8, higher: u8) -> u8
+pub fn of_pair(bit: u8, lower: u8, higher: u8) -> u8
     ensures { λ r. ⌜ r ≡ of-pair lower higher bit ⌝ }
 {
     if bit == 0 { lower } else { higher }

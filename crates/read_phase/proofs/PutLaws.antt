@@ -45,7 +45,7 @@ pub record Putting (l : List ℕ) (parts : PhaseParts) (h : ℕ) (old output : L
   pub few : h ≤ most-samples
   pub reached : k ≤ h
   pub long : length output ≡ length old
-  pub phased : p + ones (drawn (present-in l parts) k (h - k)) ≡ parts .count
+  pub to-come : p + ones (drawn (present-in l parts) k (h - k)) ≡ parts .count
   pub untouched : drop k output ≡ drop k old
   pub told : take k output ++ told-from (present-in l parts) (bit-in l parts) k p (h - k) ≡ told-from (present-in l parts) (bit-in l parts) 0 0 h
 
@@ -59,7 +59,7 @@ none-put l parts h old entry there few space same =
       few = few;
       reached = omega arith;
       long = refl;
-      phased = rw all (omega (arith, there .count-is));
+      to-come = rw all (omega (arith, there .count-is));
       untouched = refl;
       told = rw all;
     }
@@ -68,7 +68,7 @@ module _ {l : List ℕ} {parts : PhaseParts} {h : ℕ} {old output : List ℕ} {
   module _ (more : p < parts .count) where
     -- a phase bit is left, so a call is
     inside : k < h
-    inside = omega (arith, w .phased, bits-few (present-in l parts) k (h - k) (present-small l parts))
+    inside = omega (arith, w .to-come, bits-few (present-in l parts) k (h - k) (present-small l parts))
 
     pub output-inside : k < length output
     output-inside = omega (arith, inside, w .space, w .long)
@@ -93,7 +93,7 @@ module _ {l : List ℕ} {parts : PhaseParts} {h : ℕ} {old output : List ℕ} {
 
     module _ {x : ℕ} (e : x ≡ present-in l parts k) where
       phased-next : p + x + ones (drawn (present-in l parts) (k + 1) (h - (k + 1))) ≡ parts .count
-      phased-next = rw e (omega (arith, rw one-less at (w .phased), bits-next (present-in l parts) k (h - (k + 1))))
+      phased-next = rw e (omega (arith, rw one-less at (w .to-come), bits-next (present-in l parts) k (h - (k + 1))))
 
       pub phased-room : Fits w64 (p + x)
       phased-room =
@@ -108,7 +108,7 @@ module _ {l : List ℕ} {parts : PhaseParts} {h : ℕ} {old output : List ℕ} {
           few = w .few;
           reached = omega (arith, inside);
           long = length-set output k v ∙ w .long;
-          phased = phased-next;
+          to-come = phased-next;
           untouched = rw add-one (drop-set-lt (suc k) output k _ (omega arith) ∙ still);
           told = rw (one-more, append-assoc, g, f, e) (rw (one-less, told-call) at (w .told));
         }
@@ -139,7 +139,7 @@ module _ {l : List ℕ} {parts : PhaseParts} {h : ℕ} {old output : List ℕ} {
 
     pub all-put : output ≡ calls-put h l parts entry
     all-put =
-        let none : ones (drawn (present-in l parts) k (h - k)) ≡ 0 = omega (arith, w .phased) in
+        let none : ones (drawn (present-in l parts) k (h - k)) ≡ 0 = omega (arith, w .to-come) in
         let zeros = none-told (present-in l parts) (bit-in l parts) (present-small l parts) (bit-small l (parts .bits)) k p (h - k) none in
         let whole = rw zeros at (w .told) in
         sym (take-append-drop k output) ∙ rw (rest-cleared, ← append-assoc, whole)

@@ -10,6 +10,7 @@ use lib.Seq.{length-take-le, take-append-le, drop-append-le, take-at, drop-at, t
 use Rattle.format.specs.Base.{pick}
 use Rattle.format.specs.Phase.{heterozygous, heterozygous-count, first-of, rest-of, spread}
 use Rattle.format.proofs.PhaseLaws.{heterozygous-count-most}
+use Rattle.format.proofs.PhaseLaws.{spread-length}
 use Rattle.base_calls.specs.CallCount.{call-count}
 use Rattle.base_calls.proofs.CallCountLaws.{count-cons}
 use Rattle.read_phase.specs.Parts.{spread-from}
@@ -28,12 +29,6 @@ spread-cons category row phases = either (heterozygous category) phases
     either true [] = refl
     either true (x ∷ phases) = let z : 1 * x ≡ x = omega arith in rw z
     either false phases = let z : 0 * getD phases 0 0 ≡ 0 = omega arith in rw z
-
--- a phase for each sample
-spread-length : (row phases : List ℕ) → length (spread row phases) ≡ length row
-unfolding spread
-spread-length [] phases = refl
-spread-length (category ∷ row) phases = rw (spread-cons category row phases, spread-length row (drop (call-count category) phases))
 
 -- a row's front has the same phases alone
 spread-take : (i : ℕ) (row phases : List ℕ) → take i (spread row phases) ≡ spread (take i row) phases
@@ -60,13 +55,13 @@ spread-at (suc i) (category ∷ row) phases h =
     rw (spread-cons category row phases, spread-at i row (drop (call-count category) phases) (omega arith), count-cons category (take i row)) (rw getD-drop)
 
 -- without a heterozygous sample all are 0
-spread-none : (row phases : List ℕ) → heterozygous-count row ≡ 0 → spread row phases ≡ replicate (length row) 0
+spread-without-calls : (row phases : List ℕ) → heterozygous-count row ≡ 0 → spread row phases ≡ replicate (length row) 0
 unfolding spread
-spread-none [] phases e = refl
-spread-none (category ∷ row) phases e =
+spread-without-calls [] phases e = refl
+spread-without-calls (category ∷ row) phases e =
     let x : call-count category ≡ 0 = omega (arith, count-cons category row) in
     let y : heterozygous-count row ≡ 0 = omega (arith, count-cons category row) in
-    rw (spread-cons category row phases, x, spread-none row (drop 0 phases) y) (let z : 0 * getD phases 0 0 ≡ 0 = omega arith in rw z)
+    rw (spread-cons category row phases, x, spread-without-calls row (drop 0 phases) y) (let z : 0 * getD phases 0 0 ≡ 0 = omega arith in rw z)
 
 -- no phase is taken past those of the heterozygous samples
 pub spread-front : (row phases rest : List ℕ) → heterozygous-count row ≤ length phases → spread row (phases ++ rest) ≡ spread row phases
@@ -74,7 +69,8 @@ unfolding spread
 spread-front [] phases rest h = refl
 spread-front (category ∷ row) phases rest h =
     let m : call-count category ≤ length phases = omega (arith, count-cons category row) in
-    let g : heterozygous-count row ≤ length (drop (call-count category) phases) = omega (arith, count-cons category row, length-drop (call-count category) phases) in
+    let g : heterozygous-count row ≤ length (drop (call-count category) phases)
+    = omega (arith, count-cons category row, length-drop (call-count category) phases) in
     rw (
       spread-cons category row (phases ++ rest),
       spread-cons category row phases,
@@ -190,6 +186,6 @@ module _ (n : ℕ) (row old : List ℕ) (room : n ≤ length row) (space : n ≤
   unfolding spread-from
   part-done from h none =
       let zeros : drop from (spread (take n row) old) ≡ replicate (n - from) 0
-      = spread-drop from (take n row) old ∙ spread-none (drop from (take n row)) _ (part-none n from row h none)
+      = spread-drop from (take n row) old ∙ spread-without-calls (drop from (take n row)) _ (part-none n from row h none)
       ∙ ap (λ (z : ℕ). replicate z 0) (length-drop from (take n row) ∙ ap (λ (z : ℕ). z - from) (length-take-le n row room)) in
       rw (drop-append-le from (spread (take n row) old) (drop n old) (omega (arith, spread-size)), zeros) refl

@@ -39,7 +39,8 @@ none-spread from to row old h f room space e = record {
 }
 
 -- a byte, or 0 where the sample is not heterozygous
-pub phase-fits : (category x : ℕ) → x ≡ call-count category → (output : List ℕ) → ((j : ℕ) → Fits w8 (getD output j 0)) → (j : ℕ) → Fits w8 (x * getD output j 0)
+pub phase-fits : (category x : ℕ) → x ≡ call-count category → (output : List ℕ)
+    → ((j : ℕ) → Fits w8 (getD output j 0)) → (j : ℕ) → Fits w8 (x * getD output j 0)
 phase-fits category x e output known j = small x (rw e (call-few category)) (getD output j 0) (known j)
   where
     small : (x : ℕ) → x ≤ 1 → (y : ℕ) → Fits w8 y → Fits w8 (x * y)

@@ -3,14 +3,13 @@
 use mathlib.Core.Path.{_≡_, refl, sym, ap, ap₂, _∙_}
 use Prim.Native.Nat.{ℕ, _-_, _≤_}
 use native.Mathlib.Omega.{arith}
-use mathlib.Core.Bool.{Bool, false}
 use mathlib.Core.List.{List, [], _∷_, _++_, map}
 use lib.ListN.{getD, length, take, drop, replicate, length-map, length-replicate}
 use lib.Seq.{length-take-le, take-at}
 use mir.Syntax.{w8}
 use mir.Val.{Fits as Bounded}
 use Rattle.format.specs.declared.Refusal.{Refusal}
-use Rattle.format.specs.Base.{pick, Out, ok, refused, bind, map-out}
+use Rattle.format.specs.Base.{Out, ok, refused, bind, map-out}
 use Rattle.format.specs.PairCode.{category-of}
 use Rattle.format.specs.Track.{kind, Track, plain, one-bit, leaning, sparse, Fits, apply, read-kind, track-categories}
 use Rattle.format.specs.Phase.{heterozygous-count, Phases, read-phases}
@@ -23,14 +22,13 @@ use Rattle.format.proofs.TrackLaws.{IsTrack, track-as-written}
 use Rattle.base_cursor.specs.declared.Cursor.{Cursor}
 use Rattle.base_cursor.specs.Steps.{cursor-at}
 use Rattle.base_cursor.proofs.ByteLaws.{bytes-of}
-use Rattle.read_list.specs.Entries.{ListLeft, list-left}
-use Rattle.read_list.specs.Checked.{stepped}
+use Rattle.read_list.specs.Entries.{list-left}
 use Rattle.read_list.specs.declared.ListStep.{ListStep}
 use Rattle.read_list.specs.declared.ListStep.the-variants.{Listed, Refused}
 use Rattle.format.specs.declared.Reply.{Reply}
 use Rattle.format.specs.declared.Reply.the-variants.{Accepted, Refused as NotAccepted}
 use Rattle.read_record.specs.Rows.{wiped, stored, kind-categories, tracked}
-use Rattle.read_record.specs.Recorded.{replied, whole-record, end-checked, after-replied, main-replied, tracks-read}
+use Rattle.read_record.specs.Recorded.{replied, end-checked, after-replied, main-replied, tracks-read}
 use Rattle.read_record.specs.Recorded.{record-left, record-replied, recorded}
 use Rattle.read_record.proofs.RowLaws.{rest-of}
 use Rattle.read_record.proofs.EndLaws.{after-ends}

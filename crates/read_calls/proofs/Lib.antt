@@ -1,0 +1,7 @@
+pub mod BaseLaws
+pub mod CallBytes
+pub mod CountedEntryLaws
+pub mod TallyLaws
+pub mod CountAgrees
+pub mod CountedArrayLaws
+pub mod CountedTrackLaws

@@ -1,6 +1,0 @@
-pub mod BaseLaws
-pub mod CallBytes
-pub mod CountedEntryLaws
-pub mod TallyLaws
-pub mod CountAgrees
-pub mod CountedTrackLaws
