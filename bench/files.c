@@ -17,13 +17,13 @@ struct file_told plain_check(const u8 *file, usize size, u8 *work, usize work_si
     struct header h;
     struct file_told accepted = plain_open(file, size, &h);
     if (accepted.refusal) return accepted;
-    if (work_size < h.samples) return refuse(10, 0);
+    if (work_size < h.samples) return refuse(10, 0, h.variants);
     struct walk w = walk_from(&h);
     struct record r;
     struct told told;
     struct phase_track track;
     while (next_record(file, &w, &r))
-        if (!plain_pass(file, &w, &r, work, &track, &told)) return refuse(told.refusal, told.place);
+        if (!plain_pass(file, &w, &r, work, &track, &told)) return refuse(told.refusal, told.place, w.variant - 1);
     plain_clear(work, h.samples);
     return accepted;
 }
@@ -41,40 +41,55 @@ static struct record find(const u8 *file, const struct header *h, usize variant)
     return (struct record){start, start + number(lengths + h->width * i, h->width), type_at(types, i, h->half)};
 }
 
-// One variant's record read into the work area, over its anchor's row.
-static struct told read_into(const u8 *file, usize size, usize variant, usize output_size, u8 *work, usize work_size, struct header *h, struct record *r,
-                             struct phase_track *track)
+// What one variant's read looks at.
+struct one { struct header h; struct record r; struct phase_track track; };
+
+// One variant's record read into the work area, over its anchor's row; each of the two names itself. The sample is a lookup's; 0 is one of every file's.
+static struct told read_into(const u8 *file, usize size, usize variant, usize sample, usize output_size, u8 *work, usize work_size, struct one *one)
 {
-    struct file_told header = plain_open(file, size, h);
-    struct told told = {header.refusal, header.place, 0};
+    struct header *h = &one->h;
+    struct record *r = &one->r;
+    struct told told = told_of(plain_open(file, size, h));
     if (told.refusal) return told;
-    if (output_size < h->samples || work_size < h->samples) return (struct told){10, 0, 0};
-    if (variant >= h->variants) return (struct told){11, 0, 0};
+    if (output_size < h->samples || work_size < h->samples) return (struct told){10, 0, h->variants, 0};
+    if (variant >= h->variants) return (struct told){11, 0, h->variants, 0};
+    if (sample >= h->samples) return (struct told){11, 0, variant, 0};
     *r = find(file, h, variant);
     if (leans(r->type)) {
         usize i = variant % 65536, anchor = i;
         const u8 *types = file + h->at + variant / 65536 * h->full;
         while (leans(type_at(types, --anchor, h->half))) {}
         struct record a = find(file, h, variant - i + anchor);
-        if (!plain_body(file, a.start, a.end, h->samples, a.type, READ, work, track, &told)) return told;
+        if (!plain_body(file, a.start, a.end, h->samples, a.type, READ, work, &one->track, &told)) {
+            told.named = variant - i + anchor;
+            return told;
+        }
     }
-    plain_body(file, r->start, r->end, h->samples, r->type, READ, work, track, &told);
+    if (!plain_body(file, r->start, r->end, h->samples, r->type, READ, work, &one->track, &told)) told.named = variant;
     return told;
 }
 
 struct told plain_read(const u8 *file, usize size, usize variant, u8 *output, usize output_size, u8 *work, usize work_size)
 {
-    struct header h;
-    struct record r;
-    struct phase_track track;
-    struct told told = read_into(file, size, variant, output_size, work, work_size, &h, &r, &track);
+    struct one one;
+    struct told told = read_into(file, size, variant, 0, output_size, work, work_size, &one);
     if (told.refusal) return told;
-    plain_copy(work, h.samples, output);
-    plain_clear(work, h.samples);
+    plain_copy(work, one.h.samples, output);
+    plain_clear(work, one.h.samples);
     return told;
 }
 
-static void put_phases(u8 type, const struct phase_track *track, const u8 *row, usize n, u8 *phases)
+struct told plain_lookup(const u8 *file, usize size, usize variant, usize sample, u8 *work, usize work_size)
+{
+    struct one one;
+    struct told told = read_into(file, size, variant, sample, work_size, work, work_size, &one);
+    if (told.refusal) return told;
+    told.value = work[sample];
+    plain_clear(work, one.h.samples);
+    return told;
+}
+
+void plain_phases(u8 type, const struct phase_track *track, const u8 *row, usize n, u8 *phases)
 {
     if (phased(type)) plain_put_phases(track, row, n, phases);
     else plain_clear(phases, n);
@@ -82,13 +97,11 @@ static void put_phases(u8 type, const struct phase_track *track, const u8 *row, 
 
 struct told plain_read_phases(const u8 *file, usize size, usize variant, u8 *output, usize output_size, u8 *work, usize work_size)
 {
-    struct header h;
-    struct record r;
-    struct phase_track track;
-    struct told told = read_into(file, size, variant, output_size, work, work_size, &h, &r, &track);
+    struct one one;
+    struct told told = read_into(file, size, variant, 0, output_size, work, work_size, &one);
     if (told.refusal) return told;
-    put_phases(r.type, &track, work, h.samples, output);
-    plain_clear(work, h.samples);
+    plain_phases(one.r.type, &one.track, work, one.h.samples, output);
+    plain_clear(work, one.h.samples);
     return told;
 }
 
@@ -113,7 +126,7 @@ u64 plain_rows(const u8 *file, usize size, u8 *output, u8 *phases, u8 *work)
         }
         total += output[w.variant % h.samples] + 4 * output[h.samples - 1];
         if (!phases) continue;
-        put_phases(r.type, &track, output, h.samples, phases);
+        plain_phases(r.type, &track, output, h.samples, phases);
         total += 16 * phases[w.variant % h.samples] + 64 * phases[h.samples - 1];
     }
     plain_clear(work, h.samples);

@@ -41,11 +41,11 @@ struct told plain_flip(u8 *file, usize size, const u8 *set, usize set_size, u8 *
 {
     struct header h;
     struct file_told header = plain_open(file, size, &h);
-    if (header.refusal) return (struct told){header.refusal, header.place, 0};
-    if (set_size != (h.variants + 7) / 8 || work_size < h.samples) return (struct told){10, 0, 0};
-    if (h.variants % 8 && set[set_size - 1] >> h.variants % 8) return (struct told){21, 0, 0};
+    if (header.refusal) return told_of(header);
+    if (set_size != (h.variants + 7) / 8 || work_size < h.samples) return (struct told){10, 0, h.variants, 0};
+    if (h.variants % 8 && set[set_size - 1] >> h.variants % 8) return (struct told){21, 0, h.variants, 0};
     header = plain_check(file, size, work, work_size);
-    if (header.refusal) return (struct told){header.refusal, header.place, 0};
+    if (header.refusal) return told_of(header);
     struct walk w = walk_from(&h);
     struct record r;
     struct phase_track track;
@@ -69,5 +69,5 @@ struct told plain_flip(u8 *file, usize size, const u8 *set, usize set_size, u8 *
         }
     }
     plain_clear(work, h.samples);
-    return (struct told){0, 0, 0};
+    return (struct told){0, 0, 0, 0};
 }

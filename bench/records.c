@@ -49,7 +49,7 @@ static inline __attribute__((always_inline)) const u8 *walk(const u8 *file, cons
     for (usize g = 0; g < groups; g++) {
         const u8 *head = heads + g * wide, *from = p;
         usize next = wide == 1 ? head[0] : head[0] | (usize)head[1] << 8;
-        if ((g > 0 && next <= sample) || next >= n) return refuse(told, 16, head - file);
+        if ((g > 0 && next <= sample) || next >= n) return refuse(told, next < n ? 23 : 24, head - file);
         sample = next;
         usize stop = k + 64 < count ? k + 64 : count;
         for (;;) {
@@ -66,10 +66,10 @@ static inline __attribute__((always_inline)) const u8 *walk(const u8 *file, cons
                 p = varint(file, p, end, &step, told);
                 if (!p) return 0;
             }
-            if (step == 0 || step >= n - sample) return refuse(told, 16, at - file);
+            if (step == 0 || step >= n - sample) return refuse(told, step ? 24 : 23, at - file);
             sample += step;
         }
-        if (g + 1 < groups && p - from != sizes[g] + 63) return refuse(told, 16, sizes + g - file);
+        if (g + 1 < groups && p - from != sizes[g] + 63) return refuse(told, 25, sizes + g - file);
     }
     if (tally) {
         tally->less = less;

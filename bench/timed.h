@@ -8,9 +8,6 @@ struct file_told timed_check(const u8 *file, usize size, u8 *work, usize work_si
 struct told timed_read(const u8 *file, usize size, usize variant, u8 *output, usize output_size, u8 *work, usize work_size);
 struct told timed_read_phases(const u8 *file, usize size, usize variant, u8 *output, usize output_size, u8 *work, usize work_size);
 struct told timed_lookup(const u8 *file, usize size, usize variant, usize sample, u8 *work, usize work_size);
-// The state of a walk through all rows, and the refusal and place of the call that gave it.
-struct rows { usize variants, samples, variant, start, anchor_place, place; u8 mode, form, anchor_refusal, refusal; };
-
 struct rows timed_start_rows(const u8 *file, usize size, const u8 *work, usize work_size);
 struct rows timed_next_row(struct rows rows, const u8 *file, usize size, u8 *output, usize output_size, u8 *work, usize work_size);
 struct rows timed_next_phased_row(struct rows r, const u8 *file, usize size, u8 *out, usize out_size, u8 *phases, usize phases_size, u8 *work, usize work_size);

@@ -47,12 +47,18 @@ static inline int phased(u8 type)
     return (type & 16) != 0;
 }
 
-static inline struct file_told refuse(usize refusal, usize place)
+static inline struct file_told refuse(usize refusal, usize place, usize named)
 {
-    return (struct file_told){refusal, place, 0, 0, 0, 0};
+    return (struct file_told){refusal, place, named, 0, 0, 0, 0};
 }
 
-// The header check, with what it found (header.c).
+static inline struct told told_of(struct file_told header)
+{
+    return (struct told){header.refusal, header.place, header.named, 0};
+}
+
+// Where the arrays stand, by mode, M, N and form; and the header check, with what it found (header.c).
+void plain_lay_out(struct header *h);
 struct file_told plain_open(const u8 *file, usize size, struct header *h);
 
 // A walk through the records of an accepted file: pointers into the block's types and lengths, moved on.
@@ -104,6 +110,9 @@ static inline int next_leans(const struct walk *w)
 {
     return w->left && leans(type_at(w->types, w->i, w->h->half));
 }
+
+// The phases of a record of that type, which may have none (files.c).
+void plain_phases(u8 type, const struct phase_track *track, const u8 *row, usize n, u8 *phases);
 
 // The record that the walk gave, checked (files.c). The row has the anchor's categories where one leans, and is made only where the next record leans.
 int plain_pass(const u8 *file, struct walk *w, const struct record *r, u8 *row, struct phase_track *track, struct told *told);

@@ -99,21 +99,27 @@ static void pack_bits(const u8 *categories, usize n, u8 higher, u8 *p)
     }
 }
 
+// A writer's reply names no variant: it has no file.
+static struct told refuse(usize refusal, usize place)
+{
+    return (struct told){refusal, place, 0, 0};
+}
+
 struct told plain_write_record(const u8 *categories, usize n, usize kind, usize code, const u8 *anchor, usize anchor_size, u8 *output, usize output_size)
 {
     static struct entries e;
-    if (n < 1 || n > 65536) return (struct told){4, 0, 0};
-    if (kind > 7 || kind == 5 || (kind == 1 ? code > 9 || pairs[code][1] == 0 : code != 0)) return (struct told){19, 0, 0};
-    if (anchor_size != (kind == 2 || kind == 3 ? n : 0)) return (struct told){10, 0, 0};
+    if (n < 1 || n > 65536) return refuse(4, 0);
+    if (kind > 7 || kind == 5 || (kind == 1 ? code > 9 || pairs[code][1] == 0 : code != 0)) return refuse(19, 0);
+    if (anchor_size != (kind == 2 || kind == 3 ? n : 0)) return refuse(10, 0);
     usize i = plain_first_above_3(categories, n);
-    if (i < n) return (struct told){20, i, 0};
+    if (i < n) return refuse(20, i);
     i = plain_first_above_3(anchor, anchor_size);
-    if (i < anchor_size) return (struct told){20, i, 0};
+    if (i < anchor_size) return refuse(20, i);
     if (kind == 0) {
         usize size = (n + 3) / 4;
-        if (size > output_size) return (struct told){10, 0, 0};
+        if (size > output_size) return refuse(10, 0);
         pack_categories(categories, n, output);
-        return (struct told){0, 0, size};
+        return (struct told){0, 0, 0, size};
     }
     u8 lower = 0, higher = 0;
     usize before = 0;
@@ -124,11 +130,11 @@ struct told plain_write_record(const u8 *categories, usize n, usize kind, usize 
     }
     gather(categories, n, kind, lower, higher, anchor, &e);
     usize size = before + list_size(&e, n);
-    if (size > output_size) return (struct told){10, 0, 0};
+    if (size > output_size) return refuse(10, 0);
     if (kind == 1) {
         output[0] = code;
         pack_bits(categories, n, higher, output + 1);
     }
     put_list(&e, n, output + before);
-    return (struct told){0, 0, size};
+    return (struct told){0, 0, 0, size};
 }

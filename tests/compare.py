@@ -1,7 +1,7 @@
 """Compares the built programs with the independent program.
 
-    python3 compare.py                 the committed cases, the real files, the listing, input that ends badly, document 01's examples, examples of phases,
-                                       fresh cases from new seeds for a minute
+    python3 compare.py                 the committed cases, the real files, the listing, input that ends badly, document 01's examples, examples of phases
+                                       and of variants, fresh cases from new seeds for a minute
     python3 compare.py --seed S        the same with the fresh cases of seed S alone, to run a failure again
     python3 compare.py --minutes N     fresh cases for about N minutes, seed after seed
     python3 compare.py --write         compares nothing: writes the committed cases anew
@@ -22,20 +22,22 @@ import pgen_reference as reference
 from listing_cases import check_listings, check_long_listings, check_pieces
 from pgen_byte_cases import byte_cases, table
 from pgen_cases import HEADER, PHASES, READ, ROWS, Case
-from pgen_limit_cases import limit_cases, second_block_phased_types, second_block_types
+from pgen_limit_cases import limit_cases, second_block_faults, second_block_phased_types, second_block_types
 from pgen_parts import FILE_A
 from pgen_phase_bytes import phase_sweeps
 from pgen_phase_cases import phase_limits
 from pgen_row_cases import GREATEST_STEPS, limit_walks
 from pgen_row_damage import row_damage_cases
 from phase_laws import check_phase_examples, check_phase_laws
-from probe_cases import BAD_ENDS, all_cases, cases_of_phases, fresh_cases, input_bytes, line_of, reply_to
-from program_laws import check_examples, check_flips, check_rows, row_parts
+from probe_cases import BAD_ENDS, all_cases, cases_of_phases, cases_of_variants, fresh_cases, input_bytes, line_of, reply_to
+from program_laws import check_examples, check_flips, check_rows, row_line, without_work_area
+from variant_laws import check_variant_examples, check_variant_laws
 
 HERE = Path(__file__).resolve().parent
 ROOT = HERE.parent
 COMMITTED = {"seed": 1, "count": 2500, "rows": 250}
 COMMITTED_PHASES = {"seed": 1, "count": 584}
+COMMITTED_VARIANTS = {"seed": 1}
 FRESH_CASES = 2000
 PAUSE = 0.005  # seconds between two pieces of an input
 
@@ -81,8 +83,8 @@ class Tally:
 def made():
     """The committed cases, with their lines, and the table of what every value gets: under each file's name what must stand in it."""
     of_phases = chain(cases_of_phases(**COMMITTED_PHASES), byte_cases(phase_sweeps))
-    data, want = joined(chain(all_cases(**COMMITTED), byte_cases(), row_damage_cases(), of_phases))
-    every_value = table(reply_to) + table(reply_to, phase_sweeps)
+    data, want = joined(chain(all_cases(**COMMITTED), byte_cases(), row_damage_cases(), of_phases, cases_of_variants(**COMMITTED_VARIANTS)))
+    every_value = table() + table(phase_sweeps)
     return {"crates/probe/stdin": data, "crates/probe/stdout": want, "tests/every_value.txt": every_value.encode()}
 
 
@@ -97,7 +99,7 @@ def real_readings(tally, path, call, rows):
     file = path.read_bytes()
     samples = int.from_bytes(file[7:11], "little")
     data = b"".join(input_bytes(Case(call, v, 0, file, b"", samples, samples)) for v in range(len(rows)))
-    want = "".join(f"0 0 o {bytes(map(int, row)).hex()} w {bytes(samples).hex()}\n" for row in rows).encode()
+    want = "".join(f"0 0 o {bytes(map(int, row)).hex()} w {bytes(samples).hex()} v 0\n" for row in rows).encode()
     tally.same(f"call {call} on real/{path.name}", run("probe", data), want, len(rows))
 
 
@@ -108,8 +110,9 @@ def real_file(tally, path):
     rows = path.with_suffix(".categories").read_text().split()
     real_readings(tally, path, READ, rows)
     walked = [bytes(map(int, row)) for row in rows[:GREATEST_STEPS]]
-    line = run("probe", input_bytes(Case(ROWS, len(walked), 0, file, b"", samples, samples)))
-    tally.same(f"rows of real/{path.name}", line.partition(b" w ")[0], row_parts((0, 0, row) for row in walked).encode(), len(walked))
+    line = run("probe", input_bytes(Case(ROWS, len(walked), 0, file, b"", samples, samples))).decode()
+    want = row_line((0, 0, 0, row) for row in walked) + "\n"
+    tally.same(f"rows of real/{path.name}", without_work_area(line).encode(), want.encode(), len(walked))
     tally.same(f"listing of real/{path.name}", listed(file), reference.listing(file).encode())
 
 
@@ -174,9 +177,10 @@ def bad_ends(tally):
 
 
 def fresh_limits(tally, seed):
-    """Document 01's "Tested only" cases, the limits of rows and long listings, with other files for each seed: they are large, so a run makes them once."""
+    """Document 01's "Tested only" cases, the limits of rows, variants of a second block that are named, and long listings, with other files for each seed:
+    they are large, so a run makes them once."""
     rng = random.Random(seed)
-    cases = list(chain(limit_cases(rng), limit_walks(rng), second_block_types(), second_block_phased_types(), phase_limits(rng)))
+    cases = list(chain(limit_cases(rng), limit_walks(rng), second_block_types(), second_block_phased_types(), phase_limits(rng), second_block_faults(rng)))
     data, want = joined(cases)
     tally.same(f"tested only, seed {seed}", run("probe", data), want, len(cases))
     check_long_listings(tally, listed, seed)
@@ -189,6 +193,7 @@ def fresh(tally, seed):
     check_flips(tally, run, seed)
     check_rows(tally, run, seed)
     check_phase_laws(tally, run, seed)
+    check_variant_laws(tally, run, seed)
     check_listings(tally, listed, seed)
 
 
@@ -215,6 +220,7 @@ def main():
     bad_ends(tally)
     check_examples(tally, run)
     check_phase_examples(tally, run)
+    check_variant_examples(tally, run, listed)
     end = time.monotonic() + 60 * words.minutes
     first = seed = time.time_ns() % 10**9 if words.seed is None else words.seed
     print(f"fresh cases from seed {first} on", flush=True)

@@ -1,8 +1,8 @@
 """Every value of each field of one byte; of the writer's kind and pair code, variant and sample numbers and lengths lent, values around and far above
 what is allowed: all the cases, and the table of what each value gets.
 
-The table is committed as every_value.txt: refusal and place, then the values in hex that get it; where several calls or several faults behind
-give several replies, all of them; "then" between the different replies of a walk's steps.
+The table is committed as every_value.txt: refusal, place and, behind a `v`, the variant, then the values in hex that get it; where several calls
+or several faults behind give several replies, all of them; "then" between the different replies of a walk's steps.
 """
 
 from functools import partial
@@ -13,6 +13,7 @@ from pgen_byte_headers import ALL_BYTES, N, Sweep, first_bytes, how_many, in_tur
 from pgen_cases import FLIP, LOOKUP, READ, ROWS, VIEW, WHOLE_FILE, WRITE, Case
 from pgen_parts import FILE_A, FileParts, ListParts, RecordParts, join_file
 from pgen_record import PAIRS
+from probe_cases import replies_of, reply_to
 
 # the calls that check a record: the one with the field is variant 0, and variant 1 leans on it
 CALLS_ON_RECORDS = [
@@ -97,6 +98,7 @@ def arguments():
     yield argument_sweep("variant to read", numbers, read, "x", wrong)
     yield argument_sweep("variant to look up", numbers, lookup, "x", wrong)
     yield argument_sweep("sample to look up", numbers, lookup, "y", wrong)
+    yield argument_sweep("variant to look up sample 5 of", numbers, lookup._replace(y=5), "x", wrong)
     yield argument_sweep("variant to view", numbers, Case(VIEW), "x", wrong)
     yield argument_sweep("length of a read's output", lengths, read, "output", {"x": 3})
     yield argument_sweep("length of a read's work area", lengths, read, "work", {"x": 3})
@@ -125,10 +127,10 @@ def byte_cases(swept=sweeps):
         yield from (case for _, case in sweep.alone + sweep.behind)
 
 
-def in_short(numbers, buffers):
-    """A reply's refusal and place; of rows those of its steps, each once, but for 11 past the last variant."""
-    steps = dict.fromkeys(tuple(data) for letter, data in buffers if letter == "s" and data[0] != 11)
-    return " then ".join(f"{number} {place}" for number, place in steps or [numbers[:2]])
+def in_short(reply, *steps):
+    """A reply's refusal, place and variant; of rows those of its steps, each once, but for 11 past the last variant."""
+    told = dict.fromkeys(step[1:] for step in steps if step[1] != 11) or [reply[1:]]
+    return " then ".join(f"{number} {place} v{variant}" for number, place, variant in told)
 
 
 def runs(values):
@@ -142,21 +144,21 @@ def runs(values):
     return " ".join(f"{low:02x}" if low == high else f"{low:02x}-{high:02x}" for low, high in found)
 
 
-def replies_of(cases, reply_to):
+def same_replies(cases):
     """The values that get the same replies, under these replies."""
     same = {}
     for value, group in groupby(cases, lambda each: each[0]):
-        replies = dict.fromkeys(in_short(*reply_to(case)) for _, case in group)
+        replies = dict.fromkeys(in_short(*replies_of(case, *reply_to(case))) for _, case in group)
         same.setdefault(", ".join(replies), []).append(value)
     return same
 
 
-def table(reply_to, swept=sweeps):
+def table(swept=sweeps):
     """What each value gets, as text."""
     lines = []
     for sweep in swept():
         for cases, setting in ((sweep.alone, ""), (sweep.behind, ", with a second fault behind")):
             lines += [sweep.name + setting] if cases else []
-            for replies, values in replies_of(cases, reply_to).items():
+            for replies, values in same_replies(cases).items():
                 lines += wrap(f"{replies}: {runs(values)}", 158, initial_indent="  ", subsequent_indent="    ")
     return "\n".join(lines) + "\n"

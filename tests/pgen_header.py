@@ -4,6 +4,7 @@
 BLOCK_SIZE may be changed by a test so that small blocks can be tried.
 """
 
+from contextlib import contextmanager
 from itertools import accumulate
 
 BLOCK_SIZE = 65536
@@ -17,19 +18,33 @@ PHASED = 16  # a type's bit 4: a phase track follows the main track
 
 
 class Refused(Exception):
-    """A refusal: its number and its place."""
+    """A refusal: its number, its place and its variant, which is "0 in 1 to 4, from a writer" (document 02, Ask 2)."""
 
-    def __init__(self, number, place):
-        super().__init__(number, place)
+    def __init__(self, number, place, variant=0):
+        super().__init__(number, place, variant)
         self.number = number
         self.place = place
+        self.variant = variant
+
+    def reply(self):
+        """What every reply begins with."""
+        return self.number, self.place, self.variant
 
 
-def refuse_lowest(number, places):
-    """Refuse with the lowest of the places, if there is one."""
+@contextmanager
+def naming(variant):
+    """A record does not know whose it is: its refusals name "the variant in whose record .. the fault lies"."""
+    try:
+        yield
+    except Refused as refused:
+        raise Refused(refused.number, refused.place, variant) from None
+
+
+def refuse_lowest(number, places, M):
+    """Refuse with the lowest of the places, if there is one: "M where no variant is concerned"."""
     places = list(places)
     if places:
-        raise Refused(number, min(places))
+        raise Refused(number, min(places), M)
 
 
 def up(count, size):
@@ -144,11 +159,11 @@ class Header:
             types += part[:block.count]
         self.types = bytes(types)
 
-    def bad_type_places(self):
-        """Bytes that hold a type that is not allowed."""
+    def bad_types(self):
+        """Bytes that hold a type that is not allowed, each with the variant of that type."""
         if self.mode == PLAIN_MODE:
             return []
-        return [self.type_place(variant) for variant, its_type in enumerate(self.types)
+        return [(self.type_place(variant), variant) for variant, its_type in enumerate(self.types)
                 if not type_allowed(its_type, variant)]
 
     def find_records(self):
@@ -200,7 +215,14 @@ def refuse_first_bytes(file):
     if not 1 <= little(file[7:11]) <= GREATEST_N:
         raise Refused(4, 7)
     if form & 0x30 or form & 0x0f > (0 if mode == PLAIN_MODE else 7):
-        raise Refused(5, 11)
+        raise Refused(5, 11, little(file[3:7]))
+
+
+def refuse_types(header):
+    """Refusal 8 at the lowest place, of "the lower one where one byte holds two such types"."""
+    bad = header.bad_types()
+    if bad:
+        raise Refused(8, *min(bad))
 
 
 def read_header(file):
@@ -208,12 +230,12 @@ def read_header(file):
     refuse_first_bytes(file)
     header = Header(file)
     if header.end > len(file):
-        raise Refused(6, len(file))
-    refuse_lowest(7, header.unused_bits_places())
+        raise Refused(6, len(file), header.M)
+    refuse_lowest(7, header.unused_bits_places(), header.M)
     header.find_types()
-    refuse_lowest(8, header.bad_type_places())
+    refuse_types(header)
     header.find_records()
-    refuse_lowest(9, header.bad_offset_places())
+    refuse_lowest(9, header.bad_offset_places(), header.M)
     if header.starts[-1] != len(file):
-        raise Refused(9, len(file))
+        raise Refused(9, len(file), header.M)
     return header

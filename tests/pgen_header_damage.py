@@ -7,6 +7,8 @@ marks, and changes the bytes; it gives False where this file has no such place.
 from pgen_generate import random_file
 from pgen_parts import join_file
 
+WRONG_NARROW_TYPES = [5, *range(8, 16)]  # of 4 bits, at any variant
+HALVES = [(0, 1), (0,), (1,)]  # of two types, which one byte holds where they have 4 bits: which are wrong
 OTHER_MODES = [0x00, 0x01, 0x03, 0x04, 0x05, 0x11, 0x12, 0x20, 0x21, 0x30, 0x82, 0xff]
 
 
@@ -101,6 +103,19 @@ def type_wrong(rng, file, marks):
     return True
 
 
+def wrong_halves(rng, file, marks, variant, halves):
+    """Wrong types of this variant, of the next, or of both."""
+    for half in halves:
+        set_type(rng, file, marks, variant + half, rng.choice(WRONG_NARROW_TYPES))
+
+
+def neighbours_wrong(rng, file, marks):
+    if len(marks.types) < 2:
+        return False
+    wrong_halves(rng, file, marks, 2 * rng.randrange(len(marks.types) // 2), rng.choice(HALVES))
+    return True
+
+
 def leaning_first(rng, file, marks):
     if not marks.types:
         return False
@@ -189,7 +204,7 @@ def faulted(rng, fault, make=random_file):
 
 HEADER_FAULTS = [
     short_file, magic, other_mode, exchanged_mode, M_out_of_range, N_out_of_range, M_off, N_off,
-    form_wrong, form_off, cut_header, unused_header_bits, type_wrong, leaning_first, other_kind,
+    form_wrong, form_off, cut_header, unused_header_bits, type_wrong, neighbours_wrong, leaning_first, other_kind,
     offset_wrong, cut_records, bytes_after_records, length_off, changed_anywhere,
     several_header_faults, several_header_faults, several_header_faults,
 ]

@@ -1,9 +1,10 @@
-"""The cases that document 01 names "Tested only", with the smallest files that show them."""
+"""The cases that document 01 names "Tested only", with the smallest files that show them; and refusals that name a variant of a second block."""
 
-from pgen_cases import (FLIP, HEADER, LOOKUP, READ, VIEW, WHOLE_FILE, WRITE, Case, choose_set,
+from pgen_cases import (FLIP, HEADER, LOOKUP, PHASES, READ, ROWS, VIEW, WHOLE_FILE, WRITE, Case, choose_set,
                         file_case, subject_of, with_output)
-from pgen_generate import focused_file, make_file, tiny_file
+from pgen_generate import focused_file, make_file, make_records, tiny_file
 from pgen_header_damage import put
+from pgen_list_damage import RULES, break_rules, somewhere, step_over, step_stays
 from pgen_parts import FileParts, ListParts, RecordParts, join_file
 from pgen_packed import pack
 
@@ -109,13 +110,18 @@ def sample_cases(rng):
     yield file_case(rng, FLIP, subject_of(large, 0))
 
 
-def second_block_types():
-    """Every type of 4 bits at variant 65,536, and at 65,537 after type 0; the file is its header alone, as no record has a byte."""
+def types_at_second_block(bytes_of_types, call=Case(HEADER)):
+    """A call on files with such a byte for the types of variants 65,536 and 65,537; the file is its header alone, as no record has a byte."""
     joined, marks = join_file(FileParts(0x10, 0, 1, [RecordParts(4, None, b"") for _ in range(BLOCK + 2)], []))
     file = bytearray(joined)
-    for byte in [*range(16), *(high << 4 for high in range(16))]:
+    for byte in bytes_of_types:
         file[marks.types[BLOCK]] = byte
-        yield Case(HEADER, first=bytes(file))
+        yield call._replace(first=bytes(file))
+
+
+def second_block_types():
+    """Every type of 4 bits at variant 65,536, and at 65,537 after type 0; both wrong, the first of them as it leans or by itself."""
+    return types_at_second_block([*range(16), *(high << 4 for high in range(16)), 0x52, 0x53, 0x55, 0x88])
 
 
 def second_block_phased_types():
@@ -126,6 +132,54 @@ def second_block_phased_types():
             file = bytearray(joined)
             file[marks.types[variant]] = its_type
             yield Case(HEADER, first=bytes(file))
+
+
+def second_block_record(rng, at_fault, rule, call):
+    """A call on a leaning record at variant 65,537 of a file whose records before 65,536 are empty: its anchor's list breaks a rule, or its own."""
+    N = rng.choice([67, 90, 257])
+    kinds = [rng.choice([1, 4, 6, 7]), rng.choice([2, 3]), 0]
+    records = make_records(rng, N, kinds, [rng.randint(67, N) if at_fault == BLOCK + k else 3 for k in range(3)])
+    its_list = records[at_fault - BLOCK].list
+    break_rules(N, its_list, [somewhere(rng, its_list, rule)])
+    parts = FileParts(0x10, 0, N, [RecordParts(4, None, b"") for _ in range(BLOCK)] + records, [])
+    file, _ = join_file(parts)
+    return call._replace(x=BLOCK + 1, first=file, work=N, output=N if call.call != LOOKUP else 0)
+
+
+def last_record_wrong(rng, mode):
+    """A whole file of 65,538 variants and three samples, of which the last has unused bits set."""
+    parts = tiny_file(rng, BLOCK + 2, (0, 0) if mode == 0x10 else (), mode)
+    parts.N = 3
+    for record in parts.records:
+        record.front[0] &= 0x3f
+    parts.records[-1].front[0] |= 0x40
+    return join_file(parts)[0]
+
+
+def named_in_second_block(rng):
+    """The fewest: an anchor at 65,536, a leaning record at 65,537, a type at 65,537 and, in mode 0x02, the record there at fault."""
+    yield second_block_record(rng, BLOCK, step_stays, Case(READ))
+    yield second_block_record(rng, BLOCK + 1, step_over, Case(LOOKUP))
+    yield from types_at_second_block([0x54], Case(VIEW, 3))
+    yield Case(WHOLE_FILE, first=last_record_wrong(rng, 0x02), work=4)
+
+
+def second_block_faults(rng):
+    """Each rule of a list, in an anchor and in the record itself, in one call after another; types with every other call; a sample that is not there;
+    whole files of either mode with a record at fault."""
+    calls = [Case(READ), Case(LOOKUP), Case(PHASES)]
+    for turn, (_, rule, _) in enumerate(RULES):
+        for at_fault in (BLOCK, BLOCK + 1):
+            yield second_block_record(rng, at_fault, rule, calls[(turn + at_fault) % 3])
+    for call in (Case(READ, 1, output=1, work=1), Case(FLIP, second=bytes(BLOCK // 8 + 1), work=1), Case(ROWS, 1, output=1, work=1)):
+        yield from types_at_second_block([0x54, 0x25], call)
+    file, _ = join_file(FileParts(0x10, 0, 1, [RecordParts(4, None, b"") for _ in range(BLOCK + 2)], []))
+    for x in (BLOCK + 1, BLOCK + 2):
+        yield Case(LOOKUP, x, 1, first=file, work=1)
+    for mode in (0x10, 0x02):
+        file = last_record_wrong(rng, mode)
+        yield Case(WHOLE_FILE, first=file, work=4)
+        yield Case(FLIP, first=file, second=bytes(BLOCK // 8 + 1), work=4)
 
 
 def limit_cases(rng):

@@ -164,7 +164,7 @@ PHASED_WRITER_FAULTS = [
 
 def with_phased_output(rng, case):
     """An output that is exact, one short, longer or of any size."""
-    number, _, count, _ = write_phased_record(case.first, case.third, case.x, case.y, case.second, bytes(GREATEST_OUTPUT))
+    number, _, _, count, _ = write_phased_record(case.first, case.third, case.x, case.y, case.second, bytes(GREATEST_OUTPUT))
     size = rng.choice([count, count, max(0, count - 1), count + 1, count + 9, rng.randint(0, count)])
     return case._replace(output=rng.choice([0, 1, len(case.first), 2 * len(case.first) + 16]) if number else size)
 

@@ -1,4 +1,4 @@
-"""One record of a PGEN file: reading it (refusals 12 to 18) and forming its bytes."""
+"""One record of a PGEN file: reading it (refusals 12 to 18 and 23 to 25) and forming its bytes."""
 
 from typing import NamedTuple, Optional
 
@@ -10,6 +10,7 @@ PAIRS = {1: (0, 1), 2: (0, 2), 3: (0, 3), 5: (1, 2), 6: (1, 3), 9: (2, 3)}
 BASES = {4: 0, 6: 2, 7: 3}
 EXCHANGED = bytes([2, 1, 0, *range(3, 256)])
 GROUP = 64
+RECORD_REFUSALS = [*range(12, 19), 23, 24, 25]
 
 
 class Record(NamedTuple):
@@ -55,7 +56,8 @@ def read_varint(file, place, end):
 def read_list(file, place, end, N, held_back):
     """A difference list: its samples and values, and the place after it.
 
-    held_back(sample) gives the values that the list must not hold for a sample.
+    held_back(sample) gives the values that the list must not hold for a sample. Of its own refusals
+    "16 stays for the count, 23 is a number not rising, 24 a number not below N, 25 a size byte".
     """
     start = place
     L, heads = read_varint(file, start, end)
@@ -76,15 +78,17 @@ def read_list(file, place, end, N, held_back):
             number_place = place
             step, place = read_varint(file, place, end)
             sample = before + step
-        if sample <= before or sample >= N:
-            raise Refused(16, number_place)
+        if sample <= before:
+            raise Refused(23, number_place)
+        if sample >= N:
+            raise Refused(24, number_place)
         if values[k] in held_back(sample):
             raise Refused(17, value_start + k // 4)
         listed[sample], before = values[k], sample
         if k % GROUP == GROUP - 1 and k // GROUP < G - 1:
             size_place = sizes + k // GROUP
             if place - group_start != file[size_place] + 63:
-                raise Refused(16, size_place)
+                raise Refused(25, size_place)
             group_start = place
     return listed, place
 
@@ -125,7 +129,7 @@ def read_main_track(file, place, end, kind, N, anchor):
 
 
 def read_record(file, start, end, its_type, N, anchor):
-    """The record that stands from start to end; refusals 12 to 18."""
+    """The record that stands from start to end; RECORD_REFUSALS, each without its variant."""
     record, place = read_main_track(file, start, end, its_type & KIND_BITS, N, anchor)
     if its_type & PHASED:
         track, place = read_track(file, place, end, heterozygous(record.categories))

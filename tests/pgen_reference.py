@@ -1,17 +1,17 @@
-"""The public calls and the listing program as pure functions, from documents 01 and 02 (Ask 1) alone.
+"""The public calls and the listing program as pure functions, from documents 01 and 02 (Asks 1 and 2) alone.
 
-Every call gives its reply (refusal, place, results) and then the later content of
+Every call gives its reply (refusal, place, variant, results) and then the later content of
 every buffer it was lent, the file and the flip set excepted where they never change:
 
-    header_check         (refusal, place, mode, M, N, form)
-    whole_file_check     (refusal, place, mode, M, N, form, work)
-    read                 (refusal, place, output, work)
-    read_phases          (refusal, place, output, work)
-    lookup               (refusal, place, category, work)
-    view                 (refusal, place, part)
-    write_record         (refusal, place, count, output)
-    write_phased_record  (refusal, place, count, output)
-    flip                 (refusal, place, file, work)
+    header_check         (refusal, place, variant, mode, M, N, form)
+    whole_file_check     (refusal, place, variant, mode, M, N, form, work)
+    read                 (refusal, place, variant, output, work)
+    read_phases          (refusal, place, variant, output, work)
+    lookup               (refusal, place, variant, category, work)
+    view                 (refusal, place, variant, part)
+    write_record         (refusal, place, variant, count, output)
+    write_phased_record  (refusal, place, variant, count, output)
+    flip                 (refusal, place, variant, file, work)
 
 Going through a file row by row is in pgen_rows. Run as a program, this one lists the
 file on standard input. The block size is pgen_header.BLOCK_SIZE.
@@ -19,18 +19,19 @@ file on standard input. The block size is pgen_header.BLOCK_SIZE.
 
 import sys
 
-from pgen_header import GREATEST_N, KIND_BITS, LEANING_KINDS, Refused, leans, read_header, up
+from pgen_header import GREATEST_N, KIND_BITS, LEANING_KINDS, Refused, leans, naming, read_header, up
 from pgen_phase import HETEROZYGOUS, SWAPPED, flipped_track, written_track
 from pgen_record import BASES, EXCHANGED, PAIRS, exchange, form_record, read_record
 
 GREATEST_LISTING = 65536
+ACCEPTED = (0, 0, 0)  # what the reply of an accepted call begins with
 CODES = {pair: code for code, pair in PAIRS.items()}
 KIND_OF_BASE = {base: kind for kind, base in BASES.items()}
 
 
 def accepted_reply(header):
-    """Refusal 0, place 0 and what the header says."""
-    return 0, 0, header.mode, header.M, header.N, header.form
+    """An accepted header's reply: what the header says."""
+    return *ACCEPTED, header.mode, header.M, header.N, header.form
 
 
 def cleared(work, N):
@@ -39,23 +40,33 @@ def cleared(work, N):
 
 
 def header_for(file, lent, variant=0, sample=0):
-    """The accepted header where lent buffers hold N bytes (10) and numbers are in range (11)."""
+    """The accepted header where lent buffers hold N bytes (10) and numbers are in range (11).
+
+    The variant is named "by 11 for a sample of a variant below M"; else M, as none is concerned.
+    """
     header = read_header(file)
     if any(len(buffer) < header.N for buffer in lent):
-        raise Refused(10, 0)
-    if variant >= header.M or sample >= header.N:
-        raise Refused(11, 0)
+        raise Refused(10, 0, header.M)
+    if variant >= header.M:
+        raise Refused(11, 0, header.M)
+    if sample >= header.N:
+        raise Refused(11, 0, variant)
     return header
+
+
+def read_its_record(file, header, variant, anchor):
+    """A variant's record, which leans on these categories if it leans."""
+    start, end = header.record(variant)
+    with naming(variant):
+        return read_record(file, start, end, header.types[variant], header.N, anchor)
 
 
 def read_all(file, header):
     """All records in variant order."""
     records, anchor = [], None
     for variant in range(header.M):
-        its_type = header.types[variant]
-        start, end = header.record(variant)
-        record = read_record(file, start, end, its_type, header.N, anchor)
-        if not leans(its_type):
+        record = read_its_record(file, header, variant, anchor)
+        if not leans(header.types[variant]):
             anchor = record.categories
         records.append(record)
     return records
@@ -63,12 +74,10 @@ def read_all(file, header):
 
 def read_one(file, header, variant):
     """The record of one variant, its anchor checked before it."""
-    its_type = header.types[variant]
     anchor = None
-    if leans(its_type):
+    if leans(header.types[variant]):
         anchor = read_one(file, header, header.anchor(variant)).categories
-    start, end = header.record(variant)
-    return read_record(file, start, end, its_type, header.N, anchor)
+    return read_its_record(file, header, variant, anchor)
 
 
 def header_check(file):
@@ -76,7 +85,7 @@ def header_check(file):
     try:
         return accepted_reply(read_header(file))
     except Refused as refused:
-        return refused.number, refused.place, 0, 0, 0, 0
+        return *refused.reply(), 0, 0, 0, 0
 
 
 def whole_file_check(file, work):
@@ -87,7 +96,7 @@ def whole_file_check(file, work):
         later = cleared(work, header.N)
         read_all(file, header)
     except Refused as refused:
-        return refused.number, refused.place, 0, 0, 0, 0, later
+        return *refused.reply(), 0, 0, 0, 0, later
     return accepted_reply(header) + (later,)
 
 
@@ -99,8 +108,8 @@ def fill(file, variant, output, work, reading):
         later = cleared(work, header.N)
         record = read_one(file, header, variant)
     except Refused as refused:
-        return refused.number, refused.place, output, later
-    return 0, 0, reading(record) + output[header.N:], later
+        return *refused.reply(), output, later
+    return *ACCEPTED, reading(record) + output[header.N:], later
 
 
 def read(file, variant, output, work):
@@ -121,8 +130,8 @@ def lookup(file, variant, sample, work):
         later = cleared(work, header.N)
         record = read_one(file, header, variant)
     except Refused as refused:
-        return refused.number, refused.place, 0, later
-    return 0, 0, record.categories[sample], later
+        return *refused.reply(), 0, later
+    return *ACCEPTED, record.categories[sample], later
 
 
 def view(file, variant):
@@ -130,9 +139,9 @@ def view(file, variant):
     try:
         header = header_for(file, [], variant)
     except Refused as refused:
-        return refused.number, refused.place, b""
+        return *refused.reply(), b""
     start, end = header.record(variant)
-    return 0, 0, file[start:end]
+    return *ACCEPTED, file[start:end]
 
 
 def refuse_arguments(categories, kind, code, anchor, phases=None):
@@ -162,8 +171,8 @@ def put_record(output, formed):
         if len(output) < len(record):
             raise Refused(10, 0)
     except Refused as refused:
-        return refused.number, refused.place, 0, output
-    return 0, 0, len(record), record + output[len(record):]
+        return *refused.reply(), 0, output
+    return *ACCEPTED, len(record), record + output[len(record):]
 
 
 def write_record(categories, kind, code, anchor, output):
@@ -237,14 +246,14 @@ def flip(file, flip_set, work):
     try:
         header = read_header(file)
         if len(flip_set) != up(header.M, 8) or len(work) < header.N:
-            raise Refused(10, 0)
+            raise Refused(10, 0, header.M)
         if header.M % 8 and flip_set[-1] >> header.M % 8:
-            raise Refused(21, 0)
+            raise Refused(21, 0, header.M)
         later = cleared(work, header.N)
         records = read_all(file, header)
     except Refused as refused:
-        return refused.number, refused.place, file, later
-    return 0, 0, flip_accepted(file, header, records, flip_set), later
+        return *refused.reply(), file, later
+    return *ACCEPTED, flip_accepted(file, header, records, flip_set), later
 
 
 def listing(data):

@@ -28,25 +28,25 @@ def file_of(N, *records):
 
 def reading(file, variant, want, N=5):
     """A reading of phases, and the line it must give."""
-    return Case(PHASES, variant, first=file, output=N, work=N), f"0 0 o {want} w {bytes(N).hex()}"
+    return Case(PHASES, variant, first=file, output=N, work=N), f"0 0 o {want} w {bytes(N).hex()} v 0"
 
 
 def refused(file, number, place, N=5):
     """The same of variant 0, refused in a record."""
-    return Case(PHASES, first=file, output=N, work=N), f"{number} {place} o {'a5' * N} w {bytes(N).hex()}"
+    return Case(PHASES, first=file, output=N, work=N), f"{number} {place} o {'a5' * N} w {bytes(N).hex()} v 0"
 
 
 def written(categories, phases, kind, code, want):
     """A phased record written with room to spare, and the line it must give."""
     size = len(bytes.fromhex(want))
     return (Case(WRITE_PHASED, kind, code, bytes(map(int, categories)), b"", size + 2, third=bytes(map(int, phases))),
-            f"0 0 {size} o {bytes.fromhex(want).hex()}a5a5")
+            f"0 0 {size} o {bytes.fromhex(want).hex()}a5a5 v 0")
 
 
 def not_written(categories, phases, number, place, anchor=b"", output=9):
     """Kind 0, refused."""
     return (Case(WRITE_PHASED, 0, 0, bytes(map(int, categories)), anchor, output, third=bytes(map(int, phases))),
-            f"{number} {place} 0 o {'a5' * output or '-'}")
+            f"{number} {place} 0 o {'a5' * output or '-'} v 0")
 
 
 def reading_examples():
@@ -89,20 +89,20 @@ def leaning_examples():
     file = file_of(5, (0x10, "e400" "0001"), (0x12, "02010603" "0001"))
     yield reading(file, 0, "0002000000")
     yield reading(file, 1, "0000000002")
-    yield Case(READ, 1, first=file, output=5, work=5), "0 0 o 0002020301 w 0000000000"
-    yield Case(LOOKUP, 1, 4, first=file, work=5), "0 0 1 w 0000000000"
-    yield Case(VIEW, 1, first=file), "0 0 6 p 020106030001"
-    yield Case(ROWS, 3, first=file, output=5, work=5), "0 0 s 0 0 o 0001020300 s 0 0 o 0002020301 s 11 0 o 0002020301 w 0001020300"
+    yield Case(READ, 1, first=file, output=5, work=5), "0 0 o 0002020301 w 0000000000 v 0"
+    yield Case(LOOKUP, 1, 4, first=file, work=5), "0 0 1 w 0000000000 v 0"
+    yield Case(VIEW, 1, first=file), "0 0 6 p 020106030001 v 0"
+    yield Case(ROWS, 3, first=file, output=5, work=5), "0 0 s 0 0 o 0001020300 v 0 s 0 0 o 0002020301 v 0 s 11 0 o 0002020301 v 2 w 0001020300 v 0"
     yield flip(file, 1, file_of(5, (0x10, "c602" "0000"), (0x13, "02010403" "0001")))
     yield flip(file, 2, file_of(5, (0x10, "e400" "0001"), (0x13, "02010603" "0000")))
     yield flip(file, 3, file_of(5, (0x10, "c602" "0000"), (0x12, "02010403" "0000")))
     one = (0x11, "0106010403" "0301")
     yield flip(file_of(5, one, one), 1, file_of(5, (0x11, "0519010403" "0300"), one))
-    wrong = file_of(5, (0x10, "e400" "0003"), (0x12, "02010603" "0001"))
-    for call in (Case(READ, 1, output=5), Case(PHASES, 1, output=5)):
-        yield call._replace(first=wrong, work=5), "18 27 o a5a5a5a5a5 w 0000000000"
-    yield Case(WHOLE_FILE, first=wrong, work=5), "18 27 0 0 0 0 w 0000000000"
-    yield Case(ROWS, 2, first=wrong, output=5, work=5), "0 0 s 18 27 o a5a5a5a5a5 s 18 27 o a5a5a5a5a5 w 0000000000"
+    wrong = file_of(5, (0x14, "00" "00"), (0x10, "e400" "0003"), (0x12, "02010603" "0001"))
+    for call in (Case(READ, 2, output=5), Case(PHASES, 2, output=5)):
+        yield call._replace(first=wrong, work=5), "18 31 o a5a5a5a5a5 w 0000000000 v 1"
+    yield Case(WHOLE_FILE, first=wrong, work=5), "18 31 0 0 0 0 w 0000000000 v 1"
+    yield Case(ROWS, 3, first=wrong, output=5, work=5), "0 0 s 0 0 o 0000000000 v 0 s 18 31 o 0000000000 v 1 s 18 31 o 0000000000 v 1 w 0000000000 v 0"
 
 
 def check_phase_examples(tally, run):

@@ -3,14 +3,16 @@
     python3 probe_cases.py --seed S --cases N [--rows R] [--phases P] --stdin FILE --stdout FILE [--end WAY]
 
 The cases named "Tested only" always come first, then every fault with every call, then
-random cases up to N; then R cases of rows; last P cases of phases. A summary goes to standard
-error. With N of at least 2,000, R of at least 250 and P of at least 550 the exit status is 1 if
-some call, or a step of rows, did not reach some refusal number that it can give.
+random cases up to N; then R cases of rows, P cases of phases, and those of Ask 2. A summary
+goes to standard error. With N of at least 2,000, R of at least 250 and P of at least 550 the exit
+status is 1 if some call, or a step of rows, did not reach some refusal number that it can give.
 
 A case of rows (call 23) makes x steps, at most 64, on the first string, after a start on the
 second, or on the first where the second is empty. Its line: refusal and place of the start;
-if it was accepted, for each step `s`, its refusal and place, and `o` with the output after
-it; last `w`. The output is filled once, before the start.
+if it was accepted, for each step `s`, its refusal and place, `o` with the output after
+it, and `v` with its variant; last `w`. The output is filled once, before the start.
+
+Every line ends with `v` and the variant of its reply, of rows that of the start's.
 """
 
 import argparse
@@ -22,10 +24,12 @@ from itertools import chain, islice
 import pgen_reference as reference
 from pgen_cases import FLIP, HEADER, LOOKUP, PHASES, READ, ROWS, VIEW, WHOLE_FILE, WRITE, WRITE_PHASED, random_case, sweep
 from pgen_header import KIND_BITS, Refused, read_header
-from pgen_limit_cases import limit_cases
+from pgen_limit_cases import limit_cases, named_in_second_block
 from pgen_phase_cases import phase_cases, phase_sweep, random_phase_case
+from pgen_record import RECORD_REFUSALS
 from pgen_row_cases import GREATEST_STEPS, random_row_case, row_cases, row_sweep
 from pgen_rows import next_row, start_rows
+from pgen_variant_cases import variant_sweep
 from scale_files import edge_cases
 
 OUTPUT_FILL = b"\xa5"
@@ -37,7 +41,6 @@ CALLS = {
     ROWS: "rows", STEP: "step",
 }
 HEADER_REFUSALS = list(range(1, 10))
-RECORD_REFUSALS = list(range(12, 19))
 POSSIBLE = {
     HEADER: HEADER_REFUSALS,
     WHOLE_FILE: HEADER_REFUSALS + [10] + RECORD_REFUSALS,
@@ -75,12 +78,12 @@ def input_bytes(case):
 
 
 def rows_reply(case, output, work):
-    """The start's numbers; each step's under a letter of their own, with the output after it."""
+    """The start's numbers; each step's under letters of their own, with the output after it."""
     *numbers, state = start_rows(case.second or case.first, work)
     parts = []
     for _ in range(case.x if state else 0):
-        *step, state, output, work = next_row(state, case.first, output, work)
-        parts += [("s", step), ("o", output)]
+        number, place, variant, state, output, work = next_row(state, case.first, output, work)
+        parts += [("s", [number, place]), ("o", output), ("v", [variant])]
     return numbers, parts + [("w", work)]
 
 
@@ -92,7 +95,13 @@ def written(case, output):
 
 
 def reply_to(case):
-    """The reply's numbers, and the buffers that are printed, each with its letter."""
+    """The reply's numbers but for its variant, and what is printed behind them, each part with its letter; last the variant."""
+    (number, place, variant, *results), parts = called(case)
+    return [number, place, *results], [*parts, ("v", [variant])]
+
+
+def called(case):
+    """All numbers of the reply, and the buffers that are printed, each with its letter."""
     output = OUTPUT_FILL * case.output
     work = WORK_FILL * case.work
     if case.call == HEADER:
@@ -119,18 +128,25 @@ def reply_to(case):
     return numbers, [("f", file), ("w", later)]
 
 
-def line_of(numbers, buffers):
+def line_of(numbers, parts):
     """The line for a reply."""
-    parts = [str(number) for number in numbers]
-    for letter, data in buffers:
-        parts += [letter, *([data.hex() or "-"] if isinstance(data, bytes) else map(str, data))]
-    return " ".join(parts)
+    words = [str(number) for number in numbers]
+    for letter, data in parts:
+        words += [letter, *([data.hex() or "-"] if isinstance(data, bytes) else map(str, data))]
+    return " ".join(words)
 
 
-def refusals_of(case, numbers, buffers):
-    """The refusal of a reply under its call, and of each step of rows."""
-    yield case.call, numbers[0]
-    yield from ((STEP, data[0]) for letter, data in buffers if letter == "s")
+def replies_of(case, numbers, parts):
+    """Refusal, place and variant of a reply under its call, and of each step of rows."""
+    *of_steps, variant = (data[0] for letter, data in parts if letter == "v")
+    yield case.call, *numbers[:2], variant
+    steps = (data for letter, data in parts if letter == "s")
+    yield from ((STEP, *step, named) for step, named in zip(steps, of_steps))
+
+
+def refusals_of(case, numbers, parts):
+    """The refusal alone, likewise."""
+    return ((call, number) for call, number, _, _ in replies_of(case, numbers, parts))
 
 
 def kinds_of(case):
@@ -160,12 +176,18 @@ def cases_of_phases(seed, count):
     return islice(phase_cases(random.Random(f"phases {seed}")), count)
 
 
+def cases_of_variants(seed):
+    """The cases of Ask 2, from a seed."""
+    rng = random.Random(f"variants {seed}")
+    return chain(named_in_second_block(rng), variant_sweep(rng))
+
+
 def fresh_cases(seed, count):
     """Every fault and every edge with every call, and then random cases: a seed's cases without those named "Tested only"."""
     rng = random.Random(f"fresh {seed}")
     families = [random_case] * 5 + [random_row_case] + [random_phase_case] * 2
     endless = (rng.choice(families)(rng) for _ in iter(int, 1))
-    return islice(chain(sweep(rng), edge_cases(rng), row_sweep(rng), phase_sweep(rng), endless), count)
+    return islice(chain(sweep(rng), edge_cases(rng), row_sweep(rng), phase_sweep(rng), variant_sweep(rng), endless), count)
 
 
 class Summary:
@@ -177,9 +199,9 @@ class Summary:
         self.refusals = Counter()
         self.pairs = Counter()
 
-    def add(self, case, numbers, buffers):
+    def add(self, case, numbers, parts):
         """Count one case."""
-        for call, number in refusals_of(case, numbers, buffers):
+        for call, number in refusals_of(case, numbers, parts):
             self.calls[call] += 1
             self.refusals[number] += 1
             self.pairs[call, number] += 1
@@ -199,7 +221,7 @@ class Summary:
             print(f"{name}: {self.calls[call]}; refusals {reached}", file=out)
         kinds = " ".join(f"{kind}:{self.kinds[kind]}" for kind in sorted(self.kinds))
         print(f"kinds in accepted calls: {kinds}", file=out)
-        refusals = " ".join(f"{number}:{self.refusals[number]}" for number in range(23))
+        refusals = " ".join(f"{number}:{self.refusals[number]}" for number in range(26))
         print(f"all refusals: {refusals}", file=out)
 
 
@@ -222,7 +244,8 @@ def main():
     arguments = parse_arguments()
     summary = Summary()
     with open(arguments.stdin, "wb") as to_probe, open(arguments.stdout, "w") as lines:
-        for case in chain(all_cases(arguments.seed, arguments.cases, arguments.rows), cases_of_phases(arguments.seed, arguments.phases)):
+        for case in chain(all_cases(arguments.seed, arguments.cases, arguments.rows), cases_of_phases(arguments.seed, arguments.phases),
+                          cases_of_variants(arguments.seed)):
             reply = reply_to(case)
             to_probe.write(input_bytes(case))
             lines.write(line_of(*reply) + "\n")

@@ -2,6 +2,7 @@
 independent program."""
 
 import random
+import re
 
 from pgen_cases import FLIP, HEADER, READ, ROWS, WRITE, Case, valid_subject
 from pgen_generate import random_file
@@ -26,13 +27,13 @@ def changed(bodies, **places):
 
 def flip(file, members, want):
     """A flip of a file with N = 5, and the line it must give."""
-    return Case(FLIP, first=file, second=bytes([members]), work=5), f"0 0 f {want.hex()} w {bytes(5).hex()}"
+    return Case(FLIP, first=file, second=bytes([members]), work=5), f"0 0 f {want.hex()} w {bytes(5).hex()} v 0"
 
 
 def write(categories, kind, code, want):
     """A record written with room to spare, and the line it must give."""
     size = len(bytes.fromhex(want))
-    return Case(WRITE, kind, code, categories, b"", size + 2), f"0 0 {size} o {want}a5a5"
+    return Case(WRITE, kind, code, categories, b"", size + 2), f"0 0 {size} o {want}a5a5 v 0"
 
 
 def one_listed(count):
@@ -44,7 +45,7 @@ def examples():
     """Examples (a) to (h) and (j), and the rows of file A: cases, each with its line."""
     other = "c60202010403010203"
     for variant, row in enumerate(("0001020300", "0002020301", "0000030000")):
-        yield Case(READ, variant, first=FILE_A, output=5, work=5), f"0 0 o {row} w {bytes(5).hex()}"
+        yield Case(READ, variant, first=FILE_A, output=5, work=5), f"0 0 o {row} w {bytes(5).hex()} v 0"
     yield flip(FILE_A, 1, changed(other, _20=0x30))
     yield flip(FILE_A, 2, changed("e40002010603010203", _20=0x30))
     yield flip(FILE_A, 3, changed(other))
@@ -54,9 +55,9 @@ def examples():
     yield write(bytes([2, 1, 1, 2, 3]), 1, 5, "0509010403")
     yield write(one_listed(256), 4, 0, "010301")
     yield write(one_listed(257), 4, 0, "01030001")
-    yield Case(HEADER, first=FILE_A[:33]), "9 33 0 0 0 0"
+    yield Case(HEADER, first=FILE_A[:33]), "9 33 0 0 0 0 v 3"
     yield Case(ROWS, 4, first=FILE_A, output=6, work=7), (
-        "0 0 s 0 0 o 0001020300a5 s 0 0 o 0002020301a5 s 0 0 o 0000030000a5 s 11 0 o 0000030000a5 w 00000300005a5a")
+        "0 0 s 0 0 o 0001020300a5 v 0 s 0 0 o 0002020301a5 v 0 s 0 0 o 0000030000a5 v 0 s 11 0 o 0000030000a5 v 3 w 00000300005a5a v 0")
 
 
 def run_lines(run, cases):
@@ -95,21 +96,26 @@ def check_flips(tally, run, seed, make=random_file):
     tally.same(f"twice, seed {seed}", b"\n".join(flipped(run, once, first, samples)), b"\n".join(files), FRESH_FLIPS)
 
 
-def row_parts(steps):
-    """The line of an accepted start and these steps (refusal, place, output), up to its work area."""
-    return "0 0" + "".join(f" s {number} {place} o {output.hex()}" for number, place, output in steps)
+def row_line(steps):
+    """The line of an accepted start and these steps (refusal, place, variant, output), but for its work area."""
+    return "0 0" + "".join(f" s {number} {place} o {output.hex()} v {variant}" for number, place, variant, output in steps) + " v 0"
+
+
+def without_work_area(line):
+    """A line of rows but for its work area."""
+    return re.sub(" w [0-9a-f-]+", "", line)
 
 
 def steps_of_reads(lines, output):
     """Lines of reads as steps: a refused one leaves the output of the one before."""
     for line in lines:
-        number, place, _, row = line.split()[:4]
+        number, place, _, row, _, _, _, variant = line.split()
         output = bytes.fromhex(row) if number == "0" else output
-        yield number, place, output
+        yield number, place, variant, output
 
 
 def check_rows(tally, run, seed, valid=valid_subject, faults=tuple(RECORD_FAULTS)):
-    """The v-th row of a walk is what a read of variant v gives, in valid files and in those with a fault in a record."""
+    """The v-th row of a walk is what a read of variant v gives, the variant that it names too, in valid files and in those with a fault in a record."""
     rng = random.Random(f"rows {seed}")
     walks, reads, subjects = [], [], []
     for number in range(FRESH_WALKS):
@@ -119,7 +125,7 @@ def check_rows(tally, run, seed, valid=valid_subject, faults=tuple(RECORD_FAULTS
         subjects.append((subject.N, len(reads), len(reads) + steps))
         walks.append(case._replace(call=ROWS, x=steps))
         reads += [case._replace(x=variant) for variant in range(steps)]
-    got = [line.partition(" w ")[0] for line in run_lines(run, walks)]
+    got = list(map(without_work_area, run_lines(run, walks)))
     lines = run_lines(run, reads)
-    want = [row_parts(steps_of_reads(lines[first:after], OUTPUT_FILL * N)) for N, first, after in subjects]
+    want = [row_line(steps_of_reads(lines[first:after], OUTPUT_FILL * N)) for N, first, after in subjects]
     tally.same(f"rows and reads, seed {seed}", "\n".join(got).encode(), "\n".join(want).encode(), len(reads))

@@ -17,7 +17,7 @@ from pathlib import Path
 
 import pgen_reference as reference
 from compare import run
-from probe_cases import CALLS, input_bytes, line_of, refusals_of, reply_to
+from probe_cases import CALLS, input_bytes, line_of, replies_of, reply_to
 from scale_counts import Counts
 from scale_files import cases_of
 
@@ -27,12 +27,12 @@ SHOWN = 20
 
 
 def expected(case):
-    """The independent program's refusals, each with its call, and line; a fault of its own is a line that no probe prints."""
+    """The independent program's replies, each with its call, and line; a fault of its own is a line that no probe prints."""
     try:
         reply = reply_to(case)
     except Exception as fault:
-        return [(case.call, None)], f"the independent program failed: {fault!r}"
-    return list(refusals_of(case, *reply)), line_of(*reply)
+        return [(case.call, None, None, None)], f"the independent program failed: {fault!r}"
+    return list(replies_of(case, *reply)), line_of(*reply)
 
 
 def expected_listing(file):
@@ -64,9 +64,9 @@ class Portion:
         self.counts.file(name, file)
         for case in cases:
             self.data += input_bytes(case)
-            refusals, line = expected(case)
+            replies, line = expected(case)
             self.asked.append((number, case.call, line))
-            self.counts.call(case, refusals)
+            self.counts.call(case, replies)
         if number % LISTING_EVERY == 0:
             want = expected_listing(file)
             self.counts.listing(want)

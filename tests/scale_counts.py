@@ -1,21 +1,34 @@
-"""What the comparison at scale reached: refusals by call, kinds, modes, forms and widths."""
+"""What the comparison at scale reached: refusals by call, variants named, kinds, modes, forms and widths."""
 
 from collections import Counter
 
 from pgen_cases import FLIP, LOOKUP, PHASES, READ, ROWS, WRITE, WRITE_PHASED
 from pgen_generate import FORMS
-from pgen_header import BLOCK_SIZE, KIND_BITS, LEANING_KINDS, PHASED, Refused, leans, read_header
-from probe_cases import CALLS, POSSIBLE, RECORD_REFUSALS
+from pgen_header import BLOCK_MODE, BLOCK_SIZE, KIND_BITS, LEANING_KINDS, PHASED, Header, Refused, leans, read_header, type_allowed
+from pgen_record import RECORD_REFUSALS
+from probe_cases import CALLS, POSSIBLE
 
 KINDS = [0, 1, 2, 3, 4, 6, 7]
-REFUSALS = range(23)
+REFUSALS = range(26)
 MEMBERSHIPS = [(member, anchor_member) for member in (False, True) for anchor_member in (False, True)]
 LIMITS_OF_N = (1, 4, 5, 63, 64, 65, 255, 256, 257, 300, 65535, 65536)
-LIST_REFUSALS = [12, 13, 15, 16, 17, 18]
+LIST_REFUSALS = [number for number in RECORD_REFUSALS if number != 14]
 TRACK_REFUSALS = [12, 13, 18]
+NAMED_HALVES = ("lower of two", "lower alone", "higher alone")
+OF_LOOKUPS = ("the sample's variant", "M")
 USES = {"read": "reads and lookups accepted", "refused": "refused in a record", "flipped": "records flipped", "written": "records written",
         "row": "rows of walks", "phases": "phases of a track read", "track flipped": "tracks flipped", "phased": "phased records written",
         "phased row": "rows of walks with a track"}
+
+
+def half_of(file, head, variant):
+    """Of a byte with a wrong type of 4 bits, where a header that begins so has it: which half is named, and whether the other is wrong too; else nothing."""
+    header = Header(head)
+    if header.mode != BLOCK_MODE or not header.narrow() or variant + 1 - variant % 2 >= header.M:
+        return None
+    types = [file[header.type_place(variant)] >> 4 * half & 15 for half in (0, 1)]
+    wrong = [not type_allowed(its_type, variant - variant % 2 + half) for half, its_type in enumerate(types)]
+    return NAMED_HALVES[0] if all(wrong) and variant % 2 == 0 else NAMED_HALVES[1 + variant % 2] if not all(wrong) else None
 
 
 class Counts:
@@ -39,6 +52,8 @@ class Counts:
         except Refused as refused:
             self.header = None
             self.of["header refused", refused.number] += 1
+            if refused.number == 8:
+                self.of["type named", half_of(file, file, refused.variant)] += 1
             return
         header = self.header
         self.of["mode and form", header.mode, header.form] += 1
@@ -48,18 +63,22 @@ class Counts:
         if header.M >= BLOCK_SIZE - 1:
             self.of["M", header.M] += 1
 
-    def call(self, case, refusals):
-        """A call with its refusal number; of rows, the start's and each step's."""
-        for call, number in refusals:
+    def call(self, case, replies):
+        """A call with its refusal number and the variant that it names; of rows, the start's and each step's."""
+        for call, number, _, variant in replies:
             self.of["call", call, number] += 1
-        number = refusals[0][1]
+            if variant is not None and variant >= BLOCK_SIZE and (number == 8 or number in RECORD_REFUSALS):
+                self.of["named in a later block", number] += 1
+        _, number, _, variant = replies[0]
         if case.call in (WRITE, WRITE_PHASED):
             if number == 0:
                 self.of["kind", "written" if case.call == WRITE else "phased", case.x] += 1
         elif self.header is not None and number is not None and number not in range(1, 12):
-            self.kinds(case, number)
+            self.kinds(case, number, variant)
             if case.call == ROWS and not case.second and case.first == self.header.file:
-                self.walked([number for _, number in refusals[1:]])
+                self.walked([number for _, number, _, _ in replies[1:]])
+        elif case.call == LOOKUP and number == 11:
+            self.of["11 names", OF_LOOKUPS[variant == self.header.M]] += 1
 
     def walked(self, numbers):
         """The kinds of the rows of a walk, and how often a refused anchor's number was given again for a record that leans on it."""
@@ -73,8 +92,8 @@ class Counts:
             elif anchor:
                 self.of["again", anchor] += 1
 
-    def kinds(self, case, number):
-        """The kinds that a call concerned: of the variant asked for, or of all that were flipped."""
+    def kinds(self, case, number, variant):
+        """The kinds that a call concerned: of the variant asked for, or of all that were flipped; and whether that variant was named, or its anchor."""
         types = self.header.types
         if case.call in (READ, LOOKUP, PHASES):
             kind, phased = types[case.x] & KIND_BITS, types[case.x] & PHASED
@@ -82,6 +101,7 @@ class Counts:
             self.of["kind", "refused" if number else use, kind] += 1
             self.of["kind and refusal", kind, number] += 1
             self.of["kind and refusal with a track", kind, number] += bool(phased)
+            self.of["named", "itself" if variant == case.x else "its anchor", number] += number > 0
         elif case.call == FLIP and number == 0:
             self.flipped(types, case.second)
 
@@ -134,12 +154,15 @@ class Counts:
         for mode, forms in FORMS.items():
             yield from (("mode and form", mode, form) for form in forms)
         yield from (("again", number) for number in RECORD_REFUSALS)
+        yield from (("named", whose, number) for whose in ("itself", "its anchor") for number in RECORD_REFUSALS)
+        yield from (("type named", half) for half in NAMED_HALVES)
+        yield from (("11 names", what) for what in OF_LOOKUPS)
         yield from (("listing", what) for what in ("accepted", "refused", "too large"))
 
     def table(self, distinct):
         """The summary."""
         return "\n".join([
-            f"files: {self.of['files']}, of which {distinct} are distinct", self.damages(), self.refusals(), self.record_kinds(),
+            f"files: {self.of['files']}, of which {distinct} are distinct", self.damages(), self.refusals(), self.names(), self.record_kinds(),
             self.kind_refusals(), self.leaning(), self.forms(), self.sizes()])
 
     def damages(self):
@@ -159,6 +182,15 @@ class Counts:
         lines.append("| all | " + " | ".join(map(str, row)) + f" | {sum(row)} |")
         return "\n".join(["calls by refusal number:"] + lines)
 
+    def names(self):
+        """The variants that refusals named: of reads and lookups the one asked for or its anchor, of a wrong type of 4 bits which half of its byte."""
+        lines = ["| Named | " + " | ".join(map(str, RECORD_REFUSALS)) + " |", "|---" * (len(RECORD_REFUSALS) + 1) + "|"]
+        for whose in ("itself", "its anchor"):
+            lines.append(f"| {whose} | " + " | ".join(str(self.of["named", whose, number]) for number in RECORD_REFUSALS) + " |")
+        halves = "; ".join(f"{half}: {self.of['type named', half]}" for half in NAMED_HALVES)
+        return "\n".join(["variants named by reads and lookups that a record refuses:", *lines, f"files with a wrong type of 4 bits: {halves}",
+                          f"11 of lookups names: {self.line('11 names')}", f"named in a later block, by number: {self.line('named in a later block')}"])
+
     def record_kinds(self):
         """A row for each kind: reads and lookups accepted and refused, records flipped and written, rows of walks; the same of tracks."""
         lines = ["| Kind | " + " | ".join(USES.values()) + " |", "|---" * (len(USES) + 1) + "|"]
@@ -169,7 +201,7 @@ class Counts:
     def kind_refusals(self):
         """A row for each kind, a column for each refusal of a record (of the variant asked for or of its anchor)."""
         numbers = RECORD_REFUSALS
-        lines = ["| Kind | " + " | ".join(map(str, numbers)) + " |", "|---" * 8 + "|"]
+        lines = ["| Kind | " + " | ".join(map(str, numbers)) + " |", "|---" * (len(numbers) + 1) + "|"]
         for kind in KINDS:
             lines.append(f"| {kind} | " + " | ".join(str(self.of["kind and refusal", kind, number]) for number in numbers) + " |")
         for kind in KINDS:

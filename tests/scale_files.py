@@ -8,12 +8,13 @@ from pgen_cases import (FILE_CALLS, GREATEST_OUTPUT, LOOKUP, PHASES, READ, WRITE
 from pgen_generate import random_file, tiny_file
 from pgen_header import BLOCK_SIZE, Header
 from pgen_header_damage import HEADER_FAULTS, changed_anywhere, offset_wrong, put
+from pgen_list_damage import any_step, with_list
 from pgen_parts import join_file
 from pgen_phase_cases import phased_subject, random_phased_writer_case
 from pgen_phase_damage import TRACK_FAULTS, upper_bit
 from pgen_phase_generate import random_phased_file
 from pgen_record import PAIRS
-from pgen_record_damage import RECORD_FAULTS, any_step, with_list
+from pgen_record_damage import RECORD_FAULTS
 from pgen_row_cases import rows_on
 
 MANY_VARIANTS_EVERY = 1000
@@ -26,20 +27,25 @@ REAL = [(Path(__file__).resolve().parent / "real" / f"{name}.pgen").read_bytes()
 
 
 def many_variants(rng):
-    """A file whose variants reach or cross the end of a block, of any form and mode; half of them with a fault in the header, often an offset."""
+    """A file whose variants reach or cross the end of a block, of any form and mode; half of them with a fault in the header, often an offset, a third with
+    one in the record of the variant of interest, which is often near that end."""
     M = BLOCK_SIZE * rng.choice([1, 1, 1, 1, 2]) + rng.choice([-1, 0, 1, 2, 3, 9])
     ending = tuple(rng.choice([0, 2, 2, 3, 3, 4, 6, 7]) for _ in range(rng.randint(0, 4)))
     mode = rng.choice([0x10, 0x10, 0x10, 0x02])
     low = rng.choice([0, 4] if M > BLOCK_SIZE + 9 else range(8))
     form = rng.randrange(4) << 6 | (low if mode == 0x10 else 0)
     parts = tiny_file(rng, M, ending if mode == 0x10 else (), mode, form)
+    near_the_end = [BLOCK_SIZE - 2, BLOCK_SIZE - 1, BLOCK_SIZE, BLOCK_SIZE + 1, M - 1, rng.randrange(M)]
+    variant = rng.choice([v for v in near_the_end if v < M])
+    if rng.random() < 0.33:
+        wrong = [b"", b"\0\0", b"\5", b"\x80", bytes([1, parts.N, 1]), b"\2\0\5\0"]
+        parts.records[variant].whole = rng.choice(wrong) if mode == 0x10 else b"\xff"
     joined, marks = join_file(parts)
     file = bytearray(joined)
     if rng.random() < 0.5:
         marks.offsets = marks.offsets[rng.choice([0, -1]):]
         rng.choice([offset_wrong, rng.choice(HEADER_FAULTS)])(rng, file, marks)
-    near_the_end = [BLOCK_SIZE - 2, BLOCK_SIZE - 1, BLOCK_SIZE, BLOCK_SIZE + 1, M - 1, rng.randrange(M)]
-    return Subject(bytes(file), M, parts.N, rng.choice([v for v in near_the_end if v < M]), parts.types)
+    return Subject(bytes(file), M, parts.N, variant, parts.types)
 
 
 def many_samples(rng):
@@ -79,8 +85,8 @@ def edge_header(rng):
     joined, _ = join_file(parts)
     file = bytearray(joined)
     place, value, size = rng.choice([
-        (11, file[11] & 0xc0 | rng.choice([7, 8, 9, 15, 16, 32]), 1), (3, rng.choice([1, 65536, 65537, 16777215, 16777216, 16777217]), 4),
-        (7, rng.choice([1, 255, 256, 257, 65535, 65536, 65537]), 4)])
+        (11, file[11] & 0xc0 | rng.choice([7, 8, 8, 8, 9, 15, 16, 32]), 1), (3, rng.choice([1, 65536, 65537, 16777215, 16777216, 16777217, 16777217]), 4),
+        (7, rng.choice([1, 255, 256, 257, 65535, 65536, 65537, 65537]), 4)])
     put(file, place, value, size)
     return Subject(bytes(file), parts.M(), parts.N, rng.randrange(parts.M()), parts.types)
 
@@ -146,7 +152,10 @@ def long_writer_case(rng):
     """A record of some 65,536 categories to be written."""
     categories = near_base(rng, rng.choice([65535, 65536, 65536, 65537]))
     kind = rng.choice([0, 1, 4, 6, 7])
-    case = with_output(rng, Case(WRITE, kind, rng.choice(sorted(PAIRS)) if kind == 1 else 0, categories))
+    case = Case(WRITE, kind, rng.choice(sorted(PAIRS)) if kind == 1 else 0, categories)
+    if len(categories) > 65536:  # refused, whatever the output is
+        return case._replace(output=rng.randrange(9))
+    case = with_output(rng, case)
     return case._replace(output=min(case.output, GREATEST_OUTPUT))
 
 

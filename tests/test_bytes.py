@@ -68,7 +68,7 @@ class Bytes(unittest.TestCase):
         return next(sweep for sweep in self.found if sweep.name == name)
 
     def test_table(self):
-        self.assertEqual((compare.ROOT / "tests" / "every_value.txt").read_text(), table(reply_to) + table(reply_to, phase_sweeps))
+        self.assertEqual((compare.ROOT / "tests" / "every_value.txt").read_text(), table() + table(phase_sweeps))
 
     def test_every_value(self):
         tried = {sweep.name: [self.values(cases) for cases in (sweep.alone, sweep.behind)] for sweep in self.found}

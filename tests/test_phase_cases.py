@@ -14,6 +14,7 @@ from pgen_phase_cases import PHASED_WRITER_FAULTS, nonempty, phase_limits, phase
 from pgen_phase_damage import TRACK_FAULTS
 from pgen_phase_generate import FOCUS_CALLS, STYLES, focused_phased_file, random_phased_file
 from pgen_phase import UNPHASED
+from pgen_record import RECORD_REFUSALS
 from probe_cases import POSSIBLE, STEP, cases_of_phases, refusals_of, reply_to
 
 # what each fault can be refused with; 0 where the damaged track may be another right one
@@ -21,7 +22,7 @@ REFUSED_WITH = {
     "track_missing": {12}, "first_part_cut": {12}, "first_part_unused_bits": {18}, "rest_of_the_byte": {18}, "phase_bits_missing": {12},
     "phase_bits_cut": {12}, "phase_unused_bits": {18}, "bytes_left": {13}, "bytes_for_no_phase_bits": {13}, "presence_bit_off": {0, 12, 13, 18},
     "first_bit_off": {0, 12, 13, 18}, "track_of_other_calls": {0, 12, 13, 18}, "bit_without_track": {12}, "track_without_bit": {13},
-    "anchor_too": {12, 13}, "changed_track": {0, 12, 13, 18}, "changed_large_track": {0, 12, 13, 18}, "main_track_too": {0, *range(12, 19)},
+    "anchor_too": {12, 13}, "changed_track": {0, 12, 13, 18}, "changed_large_track": {0, 12, 13, 18}, "main_track_too": {0, *RECORD_REFUSALS},
 }
 
 
@@ -46,7 +47,7 @@ class Faults(unittest.TestCase):
                 parts, variant = fault(rng)
                 file, N = join_file(parts)[0], parts.N
                 self.assertEqual(reference.header_check(file)[0], 0)
-                replies = [call(file, variant, bytes(N), bytes(N))[:2] for call in (reference.read, reference.read_phases)]
+                replies = [call(file, variant, bytes(N), bytes(N))[:3] for call in (reference.read, reference.read_phases)]
                 self.assertEqual(*replies)
                 numbers[replies[0][0]] += 1
             self.assertLessEqual(set(numbers), REFUSED_WITH[fault.__name__], fault.__name__)

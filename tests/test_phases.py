@@ -71,7 +71,7 @@ class Tracks(unittest.TestCase):
         """All short tracks: those accepted are those that the writer forms and those with presence bits that are all set."""
         for H in range(4):
             row = bytes([1] * H + [0] * (4 - H))
-            main = reference.write_record(row, 0, 0, b"", bytes(1))[3]
+            main = reference.write_record(row, 0, 0, b"", bytes(1))[4]
             accepted = set()
             for size in range(3):
                 for track in map(bytes, itertools.product(range(256), repeat=size)):
@@ -83,7 +83,7 @@ class Tracks(unittest.TestCase):
                     accepted.add(track)
             written = set()
             for phases in itertools.product(range(3), repeat=H):
-                count, output = reference.write_phased_record(row, bytes(phases) + bytes(4 - H), 0, 0, b"", bytes(9))[2:]
+                count, output = reference.write_phased_record(row, bytes(phases) + bytes(4 - H), 0, 0, b"", bytes(9))[3:]
                 written.add(output[1:count])
             stored = {bytes([(2 << H) - 1]) + (bytes([bits]) if H else b"") for bits in range(1 << H)}
             self.assertEqual(accepted, written | stored, H)
@@ -100,7 +100,7 @@ class Types(unittest.TestCase):
                 types[place] = its_type
                 leaning = place == 0 and its_type & 7 in (2, 3)
                 reply = reference.header_check(file_of(5, *((each, "00") for each in types)))
-                self.assertEqual(reply[:2], (0, 0) if allowed and not leaning else (8, 20 + place), (its_type, place))
+                self.assertEqual(reply[:3], (0, 0, 0) if allowed and not leaning else (8, 20 + place, place), (its_type, place))
 
     def test_listing(self):
         file = file_of(5, (0x10, "e4000001"), (0x12, "020106030001"), (0x14, "01020300"))
@@ -114,7 +114,7 @@ class Writer(unittest.TestCase):
     def check(self, categories, phases, kind, code, anchor, size, number, place):
         """A refused call leaves the output as it was."""
         reply = reference.write_phased_record(bytes(categories), bytes(phases), kind, code, bytes(anchor), FILL * size)
-        self.assertEqual(reply, (number, place, 0, FILL * size))
+        self.assertEqual(reply, (number, place, 0, 0, FILL * size))
 
     def test_order(self):
         self.check([], [9], 5, 7, [9], 0, 4, 0)
@@ -157,16 +157,16 @@ class Laws(unittest.TestCase):
         """Categories and phases together."""
         one, other = (call(file, variant, FILL * (N + 1), FILL * (N + 2)) for call in (reference.read, reference.read_phases))
         for reply in (one, other):
-            self.assertEqual((reply[:2], reply[2][N:], reply[3]), ((0, 0), FILL, bytes(N) + FILL * 2))
-        return one[2][:N], other[2][:N]
+            self.assertEqual((reply[:3], reply[3][N:], reply[4]), ((0, 0, 0), FILL, bytes(N) + FILL * 2))
+        return one[3][:N], other[3][:N]
 
     def test_readings(self):
         for _, parts, file in self.files(1, 100):
             N = parts.N
             for variant, record in enumerate(parts.records):
                 self.assertEqual(self.reading(file, variant, N), (record.categories, record.phases()))
-                self.assertEqual(reference.view(file, variant), (0, 0, record.join()))
-            self.assertEqual(reference.whole_file_check(file, FILL * N), (0, 0, 0x10, parts.M(), N, file[11], bytes(N)))
+                self.assertEqual(reference.view(file, variant), (0, 0, 0, record.join()))
+            self.assertEqual(reference.whole_file_check(file, FILL * N), (0, 0, 0, 0x10, parts.M(), N, file[11], bytes(N)))
 
     def test_flip(self):
         for rng, parts, file in self.files(2, 120):
@@ -192,20 +192,20 @@ class Laws(unittest.TestCase):
                 code, leaning = body[0] if kind == 1 else 0, anchor if kind in (2, 3) else b""
                 if record.track:
                     reply = reference.write_phased_record(categories, phases, kind, code, leaning, FILL * (len(body) + 1))
-                    self.assertEqual(reply, (0, 0, len(body), body + FILL))
+                    self.assertEqual(reply, (0, 0, 0, len(body), body + FILL))
                 anchor = anchor if kind in (2, 3) else categories
 
     def test_rows(self):
         for _, parts, file in self.files(4, 80):
-            _, _, state = start_rows(file, FILL * parts.N)
+            *_, state = start_rows(file, FILL * parts.N)
             output, work = FILL * parts.N, FILL * parts.N
             for record in parts.records:
-                number, place, state, output, work = next_row(state, file, output, work)
-                self.assertEqual((number, place, output), (0, 0, record.categories))
+                *reply, state, output, work = next_row(state, file, output, work)
+                self.assertEqual((reply, output), ([0, 0, 0], record.categories))
 
     def test_no_track(self):
         for variant in range(3):
-            self.assertEqual(reference.read_phases(A, variant, FILL * 6, FILL * 7), (0, 0, bytes(5) + FILL, bytes(5) + FILL * 2))
+            self.assertEqual(reference.read_phases(A, variant, FILL * 6, FILL * 7), (0, 0, 0, bytes(5) + FILL, bytes(5) + FILL * 2))
 
 
 if __name__ == "__main__":

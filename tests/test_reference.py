@@ -20,15 +20,15 @@ FILL = b"\x5a"
 def row(file, variant):
     """A variant's categories as digits."""
     N = int.from_bytes(file[7:11], "little")
-    refusal, place, output, work = reference.read(file, variant, bytes(N), FILL * N)
-    assert (refusal, place, work) == (0, 0, bytes(N)), (refusal, place)
+    *reply, output, work = reference.read(file, variant, bytes(N), FILL * N)
+    assert (reply, work) == ([0, 0, 0], bytes(N)), reply
     return "".join(map(str, output))
 
 
 def flipped(file, flip_set):
     """The file after an accepted flip."""
-    refusal, place, later, work = reference.flip(file, flip_set, FILL * 65536)
-    assert (refusal, place) == (0, 0), (refusal, place)
+    *reply, later, _ = reference.flip(file, flip_set, FILL * 65536)
+    assert reply == [0, 0, 0], reply
     return later
 
 
@@ -74,7 +74,7 @@ class Examples(unittest.TestCase):
 
     def test_f(self):
         reply = reference.write_record(digits("01103"), 1, 1, b"", FILL * 6)
-        self.assertEqual(reply, (0, 0, 5, bytes.fromhex("0106010403") + FILL))
+        self.assertEqual(reply, (0, 0, 0, 5, bytes.fromhex("0106010403") + FILL))
 
     def test_g(self):
         file = bytes.fromhex("6c1b1001000000050000000016000000000000000105" "0106010403")
@@ -82,14 +82,14 @@ class Examples(unittest.TestCase):
         self.assertEqual(later[22:], bytes.fromhex("0519010403"))
         self.assertEqual(row(later, 0), "21123")
         reply = reference.write_record(digits("21123"), 1, 5, b"", FILL * 5)
-        self.assertEqual(reply, (0, 0, 5, bytes.fromhex("0509010403")))
+        self.assertEqual(reply, (0, 0, 0, 5, bytes.fromhex("0509010403")))
 
     def test_h(self):
         for N, record in ((256, "010703"), (257, "01070003")):
             categories = bytes(7) + b"\3" + bytes(N - 8)
             reply = reference.write_record(categories, 4, 0, b"", FILL * 9)
-            self.assertEqual(reply[:3], (0, 0, len(record) // 2))
-            self.assertEqual(reply[3][:reply[2]].hex(), record)
+            self.assertEqual(reply[:4], (0, 0, 0, len(record) // 2))
+            self.assertEqual(reply[4][:reply[3]].hex(), record)
 
     def test_i(self):
         self.assertEqual(varint(300), bytes.fromhex("ac02"))
@@ -99,10 +99,10 @@ class Examples(unittest.TestCase):
         self.assertEqual((caught.exception.number, caught.exception.place), (15, 0))
 
     def test_j_and_every_cut(self):
-        self.assertEqual(reference.header_check(A), (0, 0, 0x10, 3, 5, 0x40))
+        self.assertEqual(reference.header_check(A), (0, 0, 0, 0x10, 3, 5, 0x40))
         for length in range(len(A)):
             number = 1 if length < 12 else 6 if length < 25 else 9
-            refusal = (number, length)
+            refusal = (number, length, 0 if number == 1 else 3)
             cut, work = A[:length], FILL * 6
             self.assertEqual(reference.header_check(cut), refusal + (0, 0, 0, 0))
             self.assertEqual(reference.whole_file_check(cut, work), refusal + (0, 0, 0, 0, work))
@@ -151,27 +151,27 @@ class Laws(unittest.TestCase):
             for variant, record in enumerate(parts.records):
                 body = record.join()
                 reply = reference.read(file, variant, FILL * (N + 1), FILL * (N + 2))
-                self.assertEqual(reply, (0, 0, record.categories + FILL, bytes(N) + FILL * 2))
+                self.assertEqual(reply, (0, 0, 0, record.categories + FILL, bytes(N) + FILL * 2))
                 sample = rng.randrange(N)
                 reply = reference.lookup(file, variant, sample, FILL * N)
-                self.assertEqual(reply, (0, 0, record.categories[sample], bytes(N)))
-                self.assertEqual(reference.view(file, variant), (0, 0, file[start:start + len(body)]))
+                self.assertEqual(reply, (0, 0, 0, record.categories[sample], bytes(N)))
+                self.assertEqual(reference.view(file, variant), (0, 0, 0, file[start:start + len(body)]))
                 self.assertEqual(file[start:start + len(body)], body)
                 start += len(body)
             self.assertEqual(reference.whole_file_check(file, FILL * N),
-                             (0, 0, parts.mode, M, N, file[11], bytes(N)))
+                             (0, 0, 0, parts.mode, M, N, file[11], bytes(N)))
 
     def test_flip(self):
         for rng, parts, file in self.files(2, 200):
             M, N = parts.M(), parts.N
             s, t = random_set(rng, M), random_set(rng, M)
             later = flipped(file, s)
-            self.assertEqual(reference.whole_file_check(later, bytes(N))[:2], (0, 0))
+            self.assertEqual(reference.whole_file_check(later, bytes(N))[:3], (0, 0, 0))
             for variant, record in enumerate(parts.records):
                 categories = record.categories
                 if s[variant // 8] >> variant % 8 & 1:
                     categories = exchange(categories)
-                self.assertEqual(reference.read(later, variant, bytes(N), bytes(N))[2], categories)
+                self.assertEqual(reference.read(later, variant, bytes(N), bytes(N))[3], categories)
             self.assertEqual(flipped(later, s), file)
             self.assertEqual(flipped(later, t), flipped(file, symmetric_difference(s, t)))
             self.assertEqual(flipped(file, bytes(len(s))), file)
@@ -193,10 +193,10 @@ class Laws(unittest.TestCase):
                 if kind == 1:
                     for sample in record.list.samples:
                         body[1 + sample // 8] &= ~(1 << sample % 8)
-                categories = reference.read(file, variant, bytes(parts.N), bytes(parts.N))[2]
+                categories = reference.read(file, variant, bytes(parts.N), bytes(parts.N))[3]
                 leaning = anchor if kind in (2, 3) else b""
                 reply = reference.write_record(categories, kind, code, leaning, FILL * len(body))
-                self.assertEqual(reply, (0, 0, len(body), bytes(body)))
+                self.assertEqual(reply, (0, 0, 0, len(body), bytes(body)))
                 if kind not in (2, 3):
                     anchor = categories
 
@@ -211,9 +211,10 @@ class Laws(unittest.TestCase):
                 code = rng.choice(sorted(PAIRS)) if kind == 1 else 0
                 leaning = bytes(anchor) if kind in (2, 3) else b""
                 reply = reference.write_record(categories, kind, code, leaning, FILL * 3 * N + FILL * 9)
-                self.assertEqual(reply[:2], (0, 0))
-                self.assertEqual(reply[3][reply[2]:], FILL * (3 * N + 9 - reply[2]))
-                record = reply[3][:reply[2]]
+                *accepted, count, output = reply
+                self.assertEqual(accepted, [0, 0, 0])
+                self.assertEqual(output[count:], FILL * (3 * N + 9 - count))
+                record = output[:count]
                 self.assertEqual(read_record(record, 0, len(record), kind, N, leaning).categories,
                                  categories)
 

@@ -30,6 +30,10 @@ class Scale(unittest.TestCase):
         reports = self.disagreements(lambda lines: lines[:second] + ["0 1 16 1 1 0"] + lines[second + 1:])
         self.assertEqual([(number, what) for number, what, _, _ in reports], [(4, "header check")])
 
+    def test_a_wrong_variant(self):
+        reports = self.disagreements(lambda lines: [lines[0].rpartition(" ")[0] + " 99"] + lines[1:])
+        self.assertEqual([(number, what) for number, what, _, _ in reports], [(3, "header check")])
+
     def test_a_missing_line(self):
         self.assertEqual([what for _, what, _, _ in self.disagreements(lambda lines: lines[:-1])][-1], "number of lines")
 

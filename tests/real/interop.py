@@ -74,8 +74,8 @@ def number_width(page):
         page.put("plain_flipped", our_flip(plain, [0]))
         same = [our_rows(plain) == page.rows(f"list{N}"), page.rows("plain_flipped") == ["2" * 3 + "1" + "2" * (N - 5) + "3"]]
         page.see(2, f"N = {N} with format=2: our row is plink2's; flipped by us, plink2's row is the flipped one", same, [True, True])
-    page.see(2, "N = 256, ten files: what our reads give; rows misread", refusals_at(page, 256, 10), (["13", "16", "17", "18", "read"], 0))
-    page.see(2, "N = 65,536, three files: the same", refusals_at(page, 65536, 3), (["16", "17", "18", "read"], 0))
+    page.see(2, "N = 256, ten files: what our reads give; rows misread", refusals_at(page, 256, 10), (["13", "17", "18", "23", "24", "read"], 0))
+    page.see(2, "N = 65,536, three files: the same", refusals_at(page, 65536, 3), (["17", "18", "24", "read"], 0))
     row = ["1/1"] * 256
     row[3] = row[4] = row[6] = "0/1"
     row[9] = "./."

@@ -17,13 +17,14 @@ use Rattle.format.specs.declared.HeaderReply.{HeaderReply}
 use Rattle.format.specs.declared.HeaderReply.the-variants as header
 use Rattle.format.specs.declared.Reply.{Reply}
 use Rattle.format.specs.declared.Reply.the-variants.{Accepted, Refused}
-use Rattle.format.specs.Base.{Out, ok, refused, refusal, bind, need}
+use Rattle.format.specs.Base.{Out, ok, refused, refusal, bind, need, need-of, named}
 use Rattle.format.specs.Limits.{variants-to-a-block}
 use Rattle.format.specs.Body.{Body}
 use Rattle.format.specs.Layout.{fields-of, Layout, fixed-of}
 use Rattle.format.specs.Header.{read-layout}
 use Rattle.format.specs.File.{File, file-of, layout-of-file, file-bytes, read-all, read-file, flip-bytes}
 use Rattle.format.specs.Reply.{is-accepted, holds-set, holds-row, checked, emptied, member, past-last, flip-left, flip-out, flip-call}
+use Rattle.format.specs.Variant.{no-variant}
 use Rattle.format.proofs.Rules.{Holds}
 use Rattle.format.proofs.Unique.{apart}
 use Rattle.format.proofs.FileLaws.{IsFile, file-as-written}
@@ -49,13 +50,17 @@ emptied-twice n row = ap (_++_ (replicate n 0)) (drop-at (replicate n 0) (drop n
 
 -- what the opening refuses the call refuses: a work area that is too short is 10 whatever the set is
 module _ (file set work : List ℕ) (why : Refusal) where
-  shut-out : (m : Out Layout) → bind m (λ l left. need (leb (l .samples) (length work)) 10 0 (ok l [])) ≡ refused why
-      → bind m (λ l left. need (holds-set set l && holds-row work l) 10 0 (need (eqb (past-last (length (l .bodies)) set) 0) 21 0 (checked K l))) ≡ refused why
+  -- the set's bits, and then the records
+  abbrev set-checked : Layout → Out Layout
+  set-checked l = need-of (no-variant (length (l .bodies))) (eqb (past-last (length (l .bodies)) set) 0) 21 0 (checked K l)
+
+  shut-out : (m : Out Layout) → bind m (λ l left. need-of (no-variant (length (l .bodies))) (leb (l .samples) (length work)) 10 0 (ok l [])) ≡ refused why
+      → bind m (λ l left. need-of (no-variant (length (l .bodies))) (holds-set set l && holds-row work l) 10 0 (set-checked l)) ≡ refused why
   shut-out (refused x) q = q
   shut-out (ok l left) q = by-room (holds-set set l) (leb (l .samples) (length work)) q
     where
-      by-room : (h b : Bool) → need b 10 0 (ok l []) ≡ refused why
-          → need (h && b) 10 0 (need (eqb (past-last (length (l .bodies)) set) 0) 21 0 (checked K l)) ≡ refused why
+      by-room : (h b : Bool) → need-of (no-variant (length (l .bodies))) b 10 0 (ok l []) ≡ refused why
+          → need-of (no-variant (length (l .bodies))) (h && b) 10 0 (set-checked l) ≡ refused why
       by-room h true q = apart (ap is-accepted q)
       by-room true false q = q
       by-room false false q = q
@@ -82,19 +87,21 @@ module _ (file set work : List ℕ) (f : Fields) (r : HeaderReply) (e : Opening 
   room = le-leb (o .layout .samples) (length work) (omega (arith, o .room, samples))
 
   -- 10
-  pub wrong-set : (z : Refusal) → z ≡ refusal 10 0 → (length set ≡ (f .variants + 7) / 8 → ⊥) → flip-left (Refused z) file work ≡ flip-call K file set work
+  pub wrong-set : (z : Refusal) → z ≡ named (no-variant (f .variants)) (refusal 10 0) → (length set ≡ (f .variants + 7) / 8 → ⊥)
+      → flip-left (Refused z) file work ≡ flip-call K file set work
   unfolding flip-call
-  wrong-set z a s = rw a (simp (o .accepted, ne-eqb (length set) ((length (o .layout .bodies) + 7) / 8) (λ h. s (rw variants h))))
+  wrong-set z a s = rw (a, variants) (simp (o .accepted, ne-eqb (length set) ((length (o .layout .bodies) + 7) / 8) (λ h. s (rw variants h))))
 
   module _ (sized : length set ≡ (f .variants + 7) / 8) (past : ℕ) (p : past ≡ past-last (f .variants) set) where
     holds : eqb (length set) ((length (o .layout .bodies) + 7) / 8) ≡ true
     holds = eq-eqb (length set) ((length (o .layout .bodies) + 7) / 8) (rw (← variants) sized)
 
     -- 21
-    pub bits-past : (z : Refusal) → z ≡ refusal 21 0 → (past ≡ 0 → ⊥) → flip-left (Refused z) file work ≡ flip-call K file set work
+    pub bits-past : (z : Refusal) → z ≡ named (no-variant (f .variants)) (refusal 21 0) → (past ≡ 0 → ⊥)
+        → flip-left (Refused z) file work ≡ flip-call K file set work
     unfolding flip-call
     bits-past z a s =
-        rw a (simp (o .accepted, holds, room, ne-eqb (past-last (length (o .layout .bodies)) set) 0 (λ h. s (rw (p, variants) h))))
+        rw (a, variants) (simp (o .accepted, holds, room, ne-eqb (past-last (length (o .layout .bodies)) set) 0 (λ h. s (rw (p, variants) h))))
 
     module _ (none : past ≡ 0) (got : Reply) (work₁ : List ℕ) (d : RecordsChecked file file f work got work₁) where
       clear : eqb (past-last (length (o .layout .bodies)) set) 0 ≡ true
@@ -106,7 +113,7 @@ module _ (file set work : List ℕ) (f : Fields) (r : HeaderReply) (e : Opening 
       left-work : work₁ ≡ emptied (o .layout .samples) work
       left-work = rw (← samples) (checked-row d)
 
-      -- 12 to 18
+      -- 12 to 18 and 23 to 25
       pub flip-records-refused : (why : Refusal) → got ≡ Refused why → flip-left (Refused why) file work₁ ≡ flip-call K file set work
       unfolding flip-call
       flip-records-refused why s =

@@ -5,6 +5,7 @@ ghost use Rattle.format.specs.Reply.{past-last, flip-left, flip-call};
 use call_open::call_refusal;
 use call_open::open;
 use flip_file::flip_accepted;
+use format::FileVariant;
 use format::HeaderReply;
 use format::Reply;
 use head_records::byte_at;
@@ -29,10 +30,10 @@ pub fn flip(file: &mut [u8], set: &[u8], work: &mut [u8]) -> Reply
         HeaderReply::Accepted(f) => {
             let variants = f.variants;
             if set.len() != (variants + 7) / 8 {
-                return Reply::Refused(call_refusal(10));
+                return Reply::Refused(call_refusal(10, FileVariant(variants)));
             }
             if past_last(set, variants) != 0 {
-                return Reply::Refused(call_refusal(21));
+                return Reply::Refused(call_refusal(21, FileVariant(variants)));
             }
             let got = check_records(&file[..], &file[..], f, work);
             match got {

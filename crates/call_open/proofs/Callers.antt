@@ -1,6 +1,6 @@
 -- What a reply of an opening tells its caller, and what a call's definition is then.
 -- Assumes nothing.
-use mathlib.Core.Path.{_≡_, refl, ap, _∙_}
+use mathlib.Core.Path.{_≡_, refl, ap, _∙_, sym}
 use Prim.Native.Nat.{ℕ, min, _<_}
 use mathlib.Core.Bool.{Bool, true, false, _&&_}
 use mathlib.Core.List.{List, []}
@@ -13,11 +13,13 @@ use Rattle.format.specs.declared.Fields.{Fields}
 use Rattle.format.specs.declared.Refusal.{Refusal}
 use Rattle.format.specs.declared.HeaderReply.{HeaderReply}
 use Rattle.format.specs.declared.HeaderReply.the-variants.{Accepted, Refused}
-use Rattle.format.specs.Base.{Out, ok, refused, bind, need}
+use Rattle.format.specs.Base.{Out, ok, refused, bind, refuse-of, need-of}
 use Rattle.format.specs.Limits.{variants-to-a-block}
 use Rattle.format.specs.Layout.{Layout}
 use Rattle.format.specs.Header.{read-layout}
 use Rattle.format.specs.Reply.{samples-of, with-layout, need-variant}
+use Rattle.format.specs.Variant.{no-variant}
+use Rattle.format.proofs.Rules.{need-of-then}
 use Rattle.call_open.specs.Open.{open-out, open-at-out, Open, OpenAt, Shut, Opening, OpeningAt}
 
 -- ---- the reply
@@ -50,6 +52,11 @@ module _ (file : List ℕ) (lent : ℕ) (f : Fields) (o : Open file lent f) wher
   pub open-variants : f .variants ≡ length (o .layout .bodies)
   open-variants = ap (λ (z : Fields). z .variants) (o .fields-are)
 
+  -- M is the one of the fields
+  pub names-none : (number : ℕ)
+      → refuse-of {A = Layout} (no-variant (length (o .layout .bodies))) number 0 ≡ refuse-of (no-variant (f .variants)) number 0
+  names-none number = ap (λ (m : ℕ). refuse-of (no-variant m) number 0) (sym open-variants)
+
   pub samples-are : samples-of variants-to-a-block file ≡ o .layout .samples
   samples-are = simp (o .accepted)
 
@@ -76,13 +83,10 @@ holds-both n a b = go (leb n a) refl (leb n b) refl
 
 -- a test between two steps belongs to the first
 pub need-after : {A : Type 0} (test : Layout → Bool) (number : ℕ) (m : Out Layout) (next : Layout → Out A)
-    → bind m (λ l left. need (test l) number 0 (next l)) ≡ bind (bind m (λ l left. need (test l) number 0 (ok l []))) (λ l left. next l)
+    → bind m (λ l left. need-of (no-variant (length (l .bodies))) (test l) number 0 (next l))
+    ≡ bind (bind m (λ l left. need-of (no-variant (length (l .bodies))) (test l) number 0 (ok l []))) (λ l left. next l)
 need-after test number (refused why) next = refl
-need-after test number (ok l left) next = go (test l)
-  where
-    go : (t : Bool) → need t number 0 (next l) ≡ bind (need t number 0 (ok l [])) (λ l left. next l)
-    go true = refl
-    go false = refl
+need-after test number (ok l left) next = sym (need-of-then (no-variant (length (l .bodies))) (test l) number 0 (ok l []) (λ l left. next l))
 
 module _ {A : Type 0} (file : List ℕ) (lent : ℕ) (sized : Layout → Bool) (fits : (l : Layout) → sized l ≡ leb (l .samples) lent) where
   pub through : (next : Layout → Out A)

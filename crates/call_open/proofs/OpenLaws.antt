@@ -12,11 +12,12 @@ use Rattle.format.specs.declared.Fields.{Fields}
 use Rattle.format.specs.declared.Refusal.{Refusal}
 use Rattle.format.specs.declared.HeaderReply.{HeaderReply}
 use Rattle.format.specs.declared.HeaderReply.the-variants.{Accepted, Refused}
-use Rattle.format.specs.Base.{Bytes, Out, ok, refused, refusal}
+use Rattle.format.specs.Base.{Bytes, Out, ok, refused, refusal, named}
 use Rattle.format.specs.Limits.{variants-to-a-block}
 use Rattle.format.specs.Layout.{Layout}
 use Rattle.format.specs.Header.{read-layout}
 use Rattle.format.specs.Reply.{Summary, summary, header-left, header-call}
+use Rattle.format.specs.Variant.{no-variant}
 use Rattle.format.proofs.Rules.{Holds}
 use Rattle.format.proofs.Unique.{apart}
 use Rattle.format.proofs.Refuses.{Refuses, HeaderNumber}
@@ -26,7 +27,7 @@ use Rattle.format.proofs.CallRefusals.{header-keeps-work}
 use Rattle.head_index.proofs.StoredLaws.{stored-whole}
 use Rattle.head_blocks.proofs.Sizes.{known-bytes}
 use Rattle.call_open.specs.Open.{open-out, Open, Shut, Opening, OpeningAt}
-use Rattle.call_open.proofs.Callers.{open-samples, open-variants, open-is}
+use Rattle.call_open.proofs.Callers.{open-samples, open-variants, open-is, names-none}
 
 -- ---- `open`
 
@@ -67,11 +68,15 @@ module _ (file : List ℕ) (lent : ℕ) (r : HeaderReply) (e : header-left r ≡
         go (refused why) a w e = apart (ap (λ (z : Summary). z .verdict .accepted) e)
 
     -- 10
-    pub short : (why : Refusal) → why ≡ refusal 10 0 → lent < f .samples → Opening file lent (Refused why)
+    pub short : (why : Refusal) → why ≡ named (no-variant (f .variants)) (refusal 10 0) → lent < f .samples → Opening file lent (Refused why)
     unfolding Opening
     short why z s =
         let n = open-samples file (f .samples) f has in
-        rw z (record { is = simp (has .accepted, lt-leb (has .layout .samples) lent (omega (arith, n))); keeps = refl })
+        rw z
+        (record {
+          is = simp (has .accepted, lt-leb (has .layout .samples) lent (omega (arith, n))) (names-none file (f .samples) f has 10);
+          keeps = refl;
+        })
 
     pub opens : f .samples ≤ lent → Opening file lent (Accepted f)
     unfolding Opening
@@ -97,11 +102,11 @@ module _ (file : List ℕ) (v : FileVariant) (lent : ℕ) (r : HeaderReply) (e :
     o = rw q at e
 
     -- 11
-    pub no-variant : (why : Refusal) → why ≡ refusal 11 0 → f .variants ≤ v .0 → OpeningAt file v lent (Refused why)
+    pub not-below : (why : Refusal) → why ≡ named (no-variant (f .variants)) (refusal 11 0) → f .variants ≤ v .0 → OpeningAt file v lent (Refused why)
     unfolding OpeningAt
-    no-variant why z s =
+    not-below why z s =
         let there = le-ltb (v .0) (length (o .layout .bodies)) (omega (arith, open-variants file lent f o)) in
-        rw z (record { is = simp (open-is file lent f o, there); keeps = refl })
+        rw z (record { is = simp (open-is file lent f o, there) (names-none file lent f o 11); keeps = refl })
 
     pub opens-at : v .0 < f .variants → OpeningAt file v lent (Accepted f)
     unfolding OpeningAt
@@ -110,4 +115,4 @@ module _ (file : List ℕ) (v : FileVariant) (lent : ℕ) (r : HeaderReply) (e :
 -- ---- what each proof cites
 pub ruleset open-laws = (known-bytes, header-refused, short, opens)
 
-pub ruleset open-at-laws = (open-refused, no-variant, opens-at)
+pub ruleset open-at-laws = (open-refused, not-below, opens-at)

@@ -1,18 +1,19 @@
 // The opening of a public call: the header check, then the sizes of what was lent, then the variant.
 ghost use mathlib.Core.Path.{_≡_};
 ghost use Prim.Native.Nat.{min};
-ghost use Rattle.format.specs.Base.{refusal};
+ghost use Rattle.format.specs.Base.{refusal, named};
 ghost use Rattle.call_open.specs.Open.{Opening, OpeningAt};
 use format::FileVariant;
 use format::HeaderReply;
 use format::Refusal;
-use format::refusal_at;
+use format::refusal_of;
 
-// 01, Replies: 10, 11 and 21, which "depend on the call's other arguments", have place 0.
-pub fn call_refusal(number: u8) -> Refusal
-    ensures { λ r. ⌜ r ≡ refusal number 0 ⌝ }
+// 01, Replies: 10, 11 and 21, which "depend on the call's other arguments", have place 0. 02, Ask 2: they name a variant, "M where no variant is
+// concerned".
+pub fn call_refusal(number: u8, variant: FileVariant) -> Refusal
+    ensures { λ r. ⌜ r ≡ named variant (refusal number 0) ⌝ }
 {
-    refusal_at(number, 0)
+    refusal_of(variant, number, 0)
 }
 
 // The shorter of two lent buffers.
@@ -31,7 +32,7 @@ pub fn open(file: &[u8], lent: usize) -> HeaderReply
         HeaderReply::Refused(why) => HeaderReply::Refused(why),
         HeaderReply::Accepted(f) => {
             if lent < f.samples {
-                return HeaderReply::Refused(call_refusal(10));
+                return HeaderReply::Refused(call_refusal(10, FileVariant(f.variants)));
             }
             HeaderReply::Accepted(f)
         }
@@ -47,7 +48,7 @@ pub fn open_at(file: &[u8], variant: FileVariant, lent: usize) -> HeaderReply
         HeaderReply::Refused(why) => HeaderReply::Refused(why),
         HeaderReply::Accepted(f) => {
             if variant.0 >= f.variants {
-                return HeaderReply::Refused(call_refusal(11));
+                return HeaderReply::Refused(call_refusal(11, FileVariant(f.variants)));
             }
             HeaderReply::Accepted(f)
         }

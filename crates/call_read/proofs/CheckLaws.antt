@@ -53,7 +53,7 @@ module _ (file work : List ℕ) (r : HeaderReply) (e : Opening file (length work
       same-layout : read-all variants-to-a-block (o .layout) ≡ read-all variants-to-a-block (d .has .layout)
       same-layout = ap (read-all variants-to-a-block) (sym (one-layout (o .stored) (d .has)))
 
-      -- 12 to 18
+      -- 12 to 18 and 23 to 25
       pub check-refused : (why : Refusal) → got ≡ done.Refused why → check-left (header.Refused why) work₁ ≡ check-call variants-to-a-block file work
       check-refused why s =
           let x = checked-refused d (o .bytes) why s in

@@ -16,11 +16,11 @@ use Rattle.format.specs.declared.HeaderReply.the-variants as header
 use Rattle.format.specs.declared.Reply.{Reply}
 use Rattle.format.specs.declared.Reply.the-variants as done
 use Rattle.format.specs.declared.LookupReply.the-variants.{Category, Refused}
-use Rattle.format.specs.Base.{Out, refusal, bind, need}
+use Rattle.format.specs.Base.{Out, refusal, bind, need, need-of, named}
 use Rattle.format.specs.Limits.{variants-to-a-block}
 use Rattle.format.specs.Layout.{Layout}
 use Rattle.format.specs.File.{read-variant}
-use Rattle.format.specs.Reply.{Lookup, verdict, refusal-of, given, work-after, samples-of, holds-row, lookup-left, lookup-call}
+use Rattle.format.specs.Reply.{Lookup, verdict, refusal-of, given, work-after, samples-of, holds-row, lookup-left, lookup-call, need-sample}
 use Rattle.call_open.specs.Open.{open-at-out, OpenAt, OpeningAt}
 use Rattle.call_open.proofs.Callers.{shut-at, ready-at, through-at, open-samples, open-at-is, samples-are}
 use Rattle.read_file.specs.Rows.{HasVariantRow, VariantRead}
@@ -36,7 +36,7 @@ lookup-from N sample work m = record {
 
 -- 11, of a sample; then the record
 abbrev sample-read : FileVariant → ℕ → Layout → Out (List ℕ)
-sample-read v sample l = need (ltb sample (l .samples)) 11 0 (read-variant variants-to-a-block l v)
+sample-read v sample l = need-sample v sample l (read-variant variants-to-a-block l v)
 
 module _ (file : List ℕ) (v : FileVariant) (sample : ℕ) (work : List ℕ) (r : HeaderReply) (e : OpeningAt file v (length work) r) where
   -- the reply, by what was opened
@@ -72,12 +72,12 @@ module _ (file : List ℕ) (v : FileVariant) (sample : ℕ) (work : List ℕ) (r
     pub sample-in : (work₁ : List ℕ) → length work₁ ≡ length work → sample < f .samples → sample < length work₁
     sample-in work₁ same t = omega (arith, o .has .room)
 
-    calls : lookup-from (f .samples) sample work (need (ltb sample (f .samples)) 11 0 (read-variant variants-to-a-block l v))
+    calls : lookup-from (f .samples) sample work (need-of v (ltb sample (f .samples)) 11 0 (read-variant variants-to-a-block l v))
         ≡ lookup-call variants-to-a-block file v sample work
     calls = rw (samples-are file (length work) f (o .has), ← n) at (looks _ (open-at-is file v (length work) f o))
 
     -- 11, of a sample
-    pub no-sample : (why : Refusal) → why ≡ refusal 11 0 → f .samples ≤ sample
+    pub no-sample : (why : Refusal) → why ≡ named v (refusal 11 0) → f .samples ≤ sample
         → lookup-left (Refused why) work ≡ lookup-call variants-to-a-block file v sample work
     no-sample why z t = rw z (rw (le-ltb sample (f .samples) t) at calls)
 
@@ -85,7 +85,7 @@ module _ (file : List ℕ) (v : FileVariant) (sample : ℕ) (work : List ℕ) (r
       reads : lookup-from (f .samples) sample work (read-variant variants-to-a-block l v) ≡ lookup-call variants-to-a-block file v sample work
       reads = rw (lt-ltb sample (f .samples) t) at calls
 
-      -- 12 to 18
+      -- 12 to 18 and 23 to 25
       pub lookup-refused : (why : Refusal) → got ≡ done.Refused why → lookup-left (Refused why) work₁ ≡ lookup-call variants-to-a-block file v sample work
       lookup-refused why s =
           let x = refused-as file v (length work) f o work got work₁ d why s in

@@ -43,7 +43,7 @@ module _ (file : List ℕ) (v : FileVariant) (lent : ℕ) (work : List ℕ) (r :
     n = samples-are file lent f (o .has) ∙ sym (open-samples file lent f (o .has))
 
     module _ (got : Reply) (work₁ : List ℕ) (d : VariantRead file file f v work got work₁) where
-      -- 12 to 18
+      -- 12 to 18 and 23 to 25
       pub row-refused : (why : Refusal) → got ≡ done.Refused why → OpeningRow file v lent work work₁ (Refused why)
       unfolding OpeningRow
       row-refused why s =

@@ -72,7 +72,7 @@ module _ (file : List ℕ) (v : FileVariant) (output work : List ℕ) (lent : �
       same-layout : d .has .has .layout ≡ l
       same-layout = one-layout (o .has .stored) (d .has .has)
 
-      -- 12 to 18
+      -- 12 to 18 and 23 to 25
       pub phases-not-read : (why : Refusal) → got ≡ Refused why → read-left (Refused why) output₁ work₁ ≡ phases-call K file v output work
       phases-not-read why s =
           let x : Clears (variant-as body-reading K l v) why

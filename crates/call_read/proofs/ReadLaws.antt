@@ -48,7 +48,7 @@ module _ (file : List ℕ) (v : FileVariant) (output work : List ℕ) (lent : �
   unfolding read-call
   reads m s = reads-as body-categories file v output work lent both m s
 
-  -- 1 to 18
+  -- 1 to 18 and 23 to 25
   pub read-shut : (why : Refusal) → r ≡ header.Refused why → read-left (Refused why) output work₁ ≡ read-call variants-to-a-block file v output work
   read-shut why q = let s = shut-row file v lent work work₁ r e why q in rw (s .left) (reads _ (s .is))
 

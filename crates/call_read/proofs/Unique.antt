@@ -42,9 +42,9 @@ pub lookup-unique : (κs : Lfts 2) (lent : ArgsD lookup.signature κs) (r s : Lo
     → (r ≡ s) × (now (left .1 .1 .1 .0) ≡ now (left₁ .1 .1 .1 .0))
 lookup-unique κs lent r s left left₁ p q = same-lookup r s _ _ (p ∙ sym q)
 
--- the two lent numbers, the bytes of the part, and where they lie
-pub view-unique : (κs : Lfts 3) (lent : ArgsD view.signature κs) (part part₁ : ResD view.signature κs) (left left₁ : AtExit view.ended κs)
+-- the three lent numbers, the bytes of the part, and where they lie
+pub view-unique : (κs : Lfts 4) (lent : ArgsD view.signature κs) (part part₁ : ResD view.signature κs) (left left₁ : AtExit view.ended κs)
     → view-contract.Post κs lent part left → view-contract.Post κs lent part₁ left₁
-    → (now (left .1 .1 .0) ≡ now (left₁ .1 .1 .0)) × (now (left .1 .1 .1 .0) ≡ now (left₁ .1 .1 .1 .0)) × (now part ≡ now part₁)
-    × (part .ptr ≡ part₁ .ptr)
-view-unique κs lent part part₁ left left₁ p q = same-view _ _ _ _ _ _ _ _ (p ∙ sym q)
+    → (now (left .1 .1 .0) ≡ now (left₁ .1 .1 .0)) × (now (left .1 .1 .1 .0) ≡ now (left₁ .1 .1 .1 .0))
+    × (now (left .1 .1 .1 .1 .0) ≡ now (left₁ .1 .1 .1 .1 .0)) × (now part ≡ now part₁) × (part .ptr ≡ part₁ .ptr)
+view-unique κs lent part part₁ left left₁ p q = same-view _ _ _ _ _ _ _ _ _ _ (p ∙ sym q)

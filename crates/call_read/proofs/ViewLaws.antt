@@ -4,7 +4,7 @@ use mathlib.Core.Path.{_≡_, refl, sym, ap, ap₂, _∙_}
 use Prim.Native.Nat.{ℕ, _+_, _-_}
 use native.Mathlib.Nat.{zero-add}
 use mathlib.Core.List.{List, []}
-use lib.ListN.{take, drop, getD}
+use lib.ListN.{take, drop, getD, length}
 use lib.Dec.{leb, lit<}
 use borrow.Author.Tests.{le-leb}
 use Rattle.format.specs.declared.FileVariant.{FileVariant}
@@ -12,11 +12,12 @@ use Rattle.format.specs.declared.Fields.{Fields}
 use Rattle.format.specs.declared.Refusal.{Refusal}
 use Rattle.format.specs.declared.HeaderReply.{HeaderReply}
 use Rattle.format.specs.declared.HeaderReply.the-variants.{Accepted, Refused}
-use Rattle.format.specs.Base.{Bytes, Out, ok, refused, bind, need}
+use Rattle.format.specs.Base.{Bytes, Out, ok, refused, bind, need, need-of}
 use Rattle.format.specs.Limits.{most-samples, variants-to-a-block}
 use Rattle.format.specs.Layout.{Layout, record-start}
 use Rattle.format.specs.Header.{read-layout}
 use Rattle.format.specs.Reply.{View, refusal-of, given, with-layout, need-variant, view-left, part-of-file, view-call}
+use Rattle.format.specs.Variant.{no-variant}
 use Rattle.format.proofs.Rules.{Holds}
 use Rattle.format.proofs.OffsetsLaws.{from-1-to-most}
 use Rattle.format.proofs.HeaderLaws.{IsLayout, layout-as-written}
@@ -45,7 +46,7 @@ module _ (file : List ℕ) (y : Bytes file) (v : FileVariant) where
   any-row {A} next = go (read-layout variants-to-a-block file) (layout-as-written variants-to-a-block file (lit< tt) y)
     where
       go : (m : Out Layout) → Holds (IsLayout variants-to-a-block file) m
-          → bind m (λ l left. next l) ≡ bind m (λ l left. need (leb (l .samples) most-samples) 10 0 (next l))
+          → bind m (λ l left. next l) ≡ bind m (λ l left. need-of (no-variant (length (l .bodies))) (leb (l .samples) most-samples) 10 0 (next l))
       go (refused why) w = refl
       go (ok l left) w = simp (le-leb (l .samples) most-samples (from-1-to-most most-samples (l .samples) (w .obeys .fixed .samples)))
 
@@ -62,9 +63,9 @@ module _ (file : List ℕ) (y : Bytes file) (v : FileVariant) where
 
     -- 1 to 9 and 11
     pub view-shut : (lies : ℕ × ℕ) (why : Refusal) → r ≡ Refused why
-        → view-left (why .number) (why .place) [] lies ≡ part-of-file lies (view-call variants-to-a-block file v)
+        → view-left (why .number) (why .place) (why .variant .0) [] lies ≡ part-of-file lies (view-call variants-to-a-block file v)
     view-shut lies why q =
-        ap (λ (n : ℕ). view-left (why .number) (why .place) [] (lies .0, n)) (sym (zero-add (lies .1)))
+        ap (λ (n : ℕ). view-left (why .number) (why .place) (why .variant .0) [] (lies .0, n)) (sym (zero-add (lies .1)))
         ∙ ap (part-of-file lies) (views _ (shut-at file v most-samples r why e q .is))
 
     module _ (f : Fields) (q : r ≡ Accepted f) where
@@ -76,11 +77,11 @@ module _ (file : List ℕ) (y : Bytes file) (v : FileVariant) where
 
       -- its part
       pub its-part : (lies : ℕ × ℕ) (p : Place) → Located file file f v p
-          → view-left 0 0 (take (p .end - p .start) (drop (p .start) file)) (lies .0, p .start + lies .1)
+          → view-left 0 0 0 (take (p .end - p .start) (drop (p .start) file)) (lies .0, p .start + lies .1)
           ≡ part-of-file lies (view-call variants-to-a-block file v)
       its-part lies p g =
           let same : g .has .layout ≡ o .has .layout = one-layout (o .has .stored) (g .has) in
-          ap₂ (λ (part : List ℕ) (start : ℕ). view-left 0 0 part (lies .0, start + lies .1)) (part-is g ∙ ap (body-of v) same)
+          ap₂ (λ (part : List ℕ) (start : ℕ). view-left 0 0 0 part (lies .0, start + lies .1)) (part-is g ∙ ap (body-of v) same)
           (ap (λ (z : Place). z .start) (g .is) ∙ ap (start-in v) same)
           ∙ ap (part-of-file lies) (views _ (open-at-is file v most-samples f o))
 

@@ -15,7 +15,7 @@ use Rattle.format.specs.File.{read-variant}
 use Rattle.format.specs.Reply.{samples-of, work-after}
 use Rattle.call_open.specs.Open.{open-at-out}
 
--- 1 to 11, then 12 to 18
+-- 1 to 11, then 12 to 18 and 23 to 25
 abbrev pub open-row-out : ℕ → List ℕ → FileVariant → ℕ → Out (List ℕ)
 open-row-out K file v lent = bind (open-at-out K file v lent) (λ l left. read-variant K l v)
 

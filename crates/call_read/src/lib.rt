@@ -105,7 +105,7 @@ pub fn lookup(file: &[u8], variant: FileVariant, sample: usize, work: &mut [u8])
         HeaderReply::Accepted(f) => {
             let n = f.samples;
             if sample >= n {
-                return LookupReply::Refused(call_refusal(11));
+                return LookupReply::Refused(call_refusal(11, variant));
             }
             let got = read_row(file, file, f, variant, work);
             match got {
@@ -127,8 +127,9 @@ pub fn view<'a>(
     variant: FileVariant,
     refusal: &mut u8,
     place: &mut usize,
+    named: &mut usize,
 ) -> &'a [u8]
-    ensures { λ r. ⌜ view-left (now (refusal .exit)) (now (place .exit)) (now r) (r .ptr)
+    ensures { λ r. ⌜ view-left (now (refusal .exit)) (now (place .exit)) (now (named .exit)) (now r) (r .ptr)
         ≡ part-of-file (file .entry .ptr) (view-call variants-to-a-block (now (file .entry)) variant) ⌝ }
 {
     let opened = open_at(file, variant, MOST_SAMPLES);
@@ -136,6 +137,7 @@ pub fn view<'a>(
         HeaderReply::Refused(why) => {
             *refusal = why.number;
             *place = why.place;
+            *named = why.variant.0;
             &file[..0]
         }
         HeaderReply::Accepted(f) => {
@@ -144,6 +146,7 @@ pub fn view<'a>(
             let end = record.end;
             *refusal = 0;
             *place = 0;
+            *named = 0;
             &file[start..end]
         }
     }

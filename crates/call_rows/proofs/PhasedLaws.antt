@@ -10,8 +10,9 @@ use native.Mathlib.Omega.{arith}
 use Rattle.format.specs.declared.Refusal.{Refusal}
 use Rattle.format.specs.declared.Reply.{Reply}
 use Rattle.format.specs.declared.Reply.the-variants.{Accepted, Refused}
-use Rattle.format.specs.Base.{pick, Out, ok, refused, refusal}
+use Rattle.format.specs.Base.{pick, Out, ok, refused, refusal, naming}
 use Rattle.format.specs.Body.{type-leans, Body, read-body}
+use Rattle.format.specs.Reply.{named-reply}
 use Rattle.format.proofs.Rules.{Holds}
 use Rattle.head_blocks.proofs.Answers.{holds}
 use Rattle.head_places.specs.declared.Place.{Place}
@@ -53,26 +54,27 @@ module _ (n type : ℕ) (l : List ℕ) (start : ℕ) (row phases : List ℕ) (go
 
 -- ---- one that leans on none
 
-module _ (rows : Rows) (held : List ℕ) (p : Place) (output phases work : List ℕ) (next : Rows) (got : Reply) (work₁ phases₁ : List ℕ)
-    (told : phased-left got work₁ phases₁ ≡ phased-recorded (rows .fields .samples) (p .record_type) (take (p .end) held) (p .start) work phases) where
+module _ (rows : Rows) (held : List ℕ) (p : Place) (output phases work : List ℕ) (next : Rows) (read got : Reply) (work₁ phases₁ : List ℕ)
+    (told : phased-left read work₁ phases₁ ≡ phased-recorded (rows .fields .samples) (p .record_type) (take (p .end) held) (p .start) work phases)
+    (v : got ≡ named-reply (rows .variant) read) where
   abbrev N : ℕ
   N = rows .fields .samples
 
-  row-told : record-left got work₁ ≡ recorded N (p .record_type) (take (p .end) held) (p .start) work
-  row-told = as-recorded N (p .record_type) (take (p .end) held) (p .start) work phases got work₁ phases₁ told
+  row-told : record-left read work₁ ≡ recorded N (p .record_type) (take (p .end) held) (p .start) work
+  row-told = as-recorded N (p .record_type) (take (p .end) held) (p .start) work phases read work₁ phases₁ told
 
   phases-told : phases₁ ≡ phases-at rows held p phases work
-  phases-told = as-filled N (p .record_type) (take (p .end) held) (p .start) work phases got work₁ phases₁ told
+  phases-told = as-filled N (p .record_type) (take (p .end) held) (p .start) work phases read work₁ phases₁ told
 
   pub phased-alone-refused : (why : Refusal) → next ≡ past rows (p .end) why → got ≡ Refused why
       → phased-row-left (answered next (Refused why)) output phases₁ work₁ ≡ phased-over-nothing rows held p output phases work
-  phased-alone-refused why n q = ap₂ with-phases (alone-refused rows held p output work next got work₁ row-told why n q) phases-told
+  phased-alone-refused why n q = ap₂ with-phases (alone-refused rows held p output work next read got work₁ row-told v why n q) phases-told
 
   pub phased-alone-accepted : (why : Refusal) → why ≡ refusal 0 0 → next ≡ past rows (p .end) why → (output₁ : List ℕ) → got ≡ Accepted
       → output₁ ≡ take (rows .fields .samples) work₁ ++ drop (rows .fields .samples) output
       → phased-row-left (answered next Accepted) output₁ phases₁ work₁ ≡ phased-over-nothing rows held p output phases work
   phased-alone-accepted why z n output₁ q e =
-      ap₂ with-phases (alone-accepted rows held p output work next got work₁ row-told why z n output₁ q e) phases-told
+      ap₂ with-phases (alone-accepted rows held p output work next read got work₁ row-told v why z n output₁ q e) phases-told
 
 -- ---- one that leans
 
@@ -87,7 +89,7 @@ module _ (rows : Rows) (held : List ℕ) (p : Place) (output phases work : List 
   abbrev body : Out Body
   body = body-at rows held p work
 
-  was-checked : got ≡ checked-as rows held p output work ready accepted-anchor body
+  was-checked : got ≡ checked-as rows held p output work ready accepted-anchor (naming (rows .variant) body)
   was-checked = checked rows held p output work ready next n got told
 
   pub phased-leaning-refused : (why : Refusal) → got ≡ Refused why
@@ -95,7 +97,7 @@ module _ (rows : Rows) (held : List ℕ) (p : Place) (output phases work : List 
   phased-leaning-refused why q =
       ap₂ with-phases (leaning-refused rows held p output work ready next n got told why q) (go accepted-anchor body was-checked)
     where
-      go : (b : Bool) (m : Out Body) → got ≡ checked-as rows held p output work ready b m
+      go : (b : Bool) (m : Out Body) → got ≡ checked-as rows held p output work ready b (naming (rows .variant) m)
           → phases ≡ pick b (phases-filled samples (take samples work) phases m) phases
       go true (ok read left) e = absurd (let y : _≡_ {A = ℕ} 0 1 = cc in omega arith)
       go true (refused other) e = refl
@@ -118,7 +120,8 @@ module _ (rows : Rows) (held : List ℕ) (p : Place) (output phases work : List 
           (read-body (length (take (p .end) held)) samples row (p .record_type) (drop (p .start) (take (p .end) held))))
           (ap (take samples) f ∙ same-row rows held p output work ready)
 
-      go : (b : Bool) (m : Out Body) → got ≡ checked-as rows held p output work ready b m → phases₁ ≡ phases-filled samples (take samples work) phases m
+      go : (b : Bool) (m : Out Body) → got ≡ checked-as rows held p output work ready b (naming (rows .variant) m)
+          → phases₁ ≡ phases-filled samples (take samples work) phases m
           → phases₁ ≡ pick b (phases-filled samples (take samples work) phases m) phases
       go true m e g = g
       go false m e g = absurd (let y : _≡_ {A = ℕ} 0 1 = cc in omega arith)

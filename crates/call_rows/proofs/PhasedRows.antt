@@ -10,14 +10,14 @@ use lib.Dec.{eqb, leb}
 use native.Mathlib.Omega.{arith}
 use borrow.Author.Tests.{leb-true, leb-false, le-leb, lt-leb}
 use Rattle.format.specs.declared.Reply.the-variants.{Refused}
-use Rattle.format.specs.Base.{pick, Bytes, Out, ok, refused}
+use Rattle.format.specs.Base.{pick, Bytes, Out, ok, refused, naming}
 use Rattle.format.specs.Body.{type-leans, Body, body-phases}
 use Rattle.format.specs.Reply.{keeps-work}
 use Rattle.format.proofs.Rules.{Holds, by-test}
 use Rattle.format.proofs.Refuses.{Among}
 use Rattle.format.proofs.Unique.{apart}
 use Rattle.head_places.specs.declared.Place.{Place}
-use Rattle.read_record.specs.Recorded.{record-replied, recorded}
+use Rattle.read_record.specs.Recorded.{record-replied, recorded, named-left}
 use Rattle.call_rows.specs.declared.Rows.{Rows}
 use Rattle.call_rows.specs.Calls.{state-checked, next-record, row-left, past, answered, alone, leaning, over-nothing, over-anchor, stepped}
 use Rattle.call_rows.specs.Calls.{next-row-in, next-row-call, RowReady}
@@ -91,7 +91,10 @@ module _ (rows : Rows) (held output phases work : List ℕ) where
     alone-both = go (body-at rows held p work) refl
       where
         go : (m : Out Body) → body-at rows held p work ≡ m
-            → Both (record { row = alone rows (p .end) output (record-replied N work m); phases = phases-filled N (take N work) phases m })
+            → Both (record {
+              row = alone rows (p .end) output (named-left (rows .variant) (record-replied N work m));
+              phases = phases-filled N (take N work) phases m;
+            })
         go (ok body rest) r = (λ e. apart e, λ e. record { body = body; rest = rest; is-read = r; are-phases = refl })
         go (refused why) r = (λ e. refl, λ e. apart (sym e))
 
@@ -99,7 +102,7 @@ module _ (rows : Rows) (held output phases work : List ℕ) where
     anchor-both = rw (over-copy rows held p output work ready) (go (eqb (rows .refusal .number) 0) (body-at rows held p work) refl)
       where
         go : (b : Bool) (m : Out Body) → body-at rows held p work ≡ m
-            → Both (with-phases (pick b (leaning rows (p .end) output work (record-replied N copied m))
+            → Both (with-phases (pick b (leaning rows (p .end) output work (record-replied N copied (naming (rows .variant) m)))
             (row-left (answered (past rows (p .end) (rows .refusal)) (Refused (rows .refusal))) output work))
             (pick b (phases-filled N (take N work) phases m) phases))
         go true (ok body rest) r = (λ e. apart e, λ e. record { body = body; rest = rest; is-read = r; are-phases = refl })

@@ -12,14 +12,14 @@ use Rattle.format.specs.declared.BlockVariant.{BlockVariant}
 use Rattle.format.specs.declared.Reply.{Reply}
 use Rattle.format.specs.declared.Reply.the-variants.{Accepted, Refused}
 use Rattle.format.specs.declared.Refusal.{Refusal}
-use Rattle.format.specs.Base.{pick, Out, ok, refuse, refused, bind}
+use Rattle.format.specs.Base.{pick, Out, ok, refuse, refused, bind, refuse-of}
 use Rattle.format.specs.Limits.{variants-to-a-block}
 use Rattle.format.specs.Body.{type-leans}
-use Rattle.format.specs.Variant.{in-block}
+use Rattle.format.specs.Variant.{in-block, no-variant}
 use Rattle.format.specs.Layout.{unblocked, fixed-type, type-allowed}
 use Rattle.format.specs.Header.{type-place}
 use Rattle.format.specs.Reply.{plain-answer}
-use Rattle.format.proofs.Rules.{Holds, by-need, by-bind, never-both, both}
+use Rattle.format.proofs.Rules.{Holds, by-need, by-bind, never-both, both, by-need-of}
 use Rattle.head_index.specs.VariantsAt.{type-at}
 use Rattle.head_blocks.specs.Parts.{fixed}
 use Rattle.head_blocks.proofs.Answers.{holds}
@@ -64,12 +64,12 @@ module _ (rows : Rows) (index held : List ℕ) where
       go true h = never-both (never-leans rows) h
       go false h = refl
 
-  no-type : type-follows rows type ≡ false → refuse 8 (type-place K (fixed (rows .fields)) (rows .variant)) ≡ record-checked rows index held
+  no-type : type-follows rows type ≡ false → refuse-of (rows .variant) 8 (type-place K (fixed (rows .fields)) (rows .variant)) ≡ record-checked rows index held
   unfolding record-checked record-of
   no-type h = simp h
 
   module _ (t : type-follows rows type ≡ true) where
-    no-end : length held < rows .start + size → refuse 9 (length held) ≡ record-checked rows index held
+    no-end : length held < rows .start + size → refuse-of (no-variant (rows .fields .variants)) 9 (length held) ≡ record-checked rows index held
     unfolding record-checked record-of
     no-end h = simp (lt-leb, t)
 
@@ -86,18 +86,19 @@ module _ (rows : Rows) (index held : List ℕ) where
     pub denied-there : not a ≡ true → unblocked (rows .fields .mode) ≡ false
     denied-there t = denied-blocked (denied t)
 
-    pub no-type-at : not a ≡ true → (place : ℕ) → place ≡ type-place K (fixed (rows .fields)) (rows .variant) → refuse 8 place ≡ record-checked rows index held
+    pub no-type-at : not a ≡ true → (place : ℕ) → place ≡ type-place K (fixed (rows .fields)) (rows .variant)
+        → refuse-of (rows .variant) 8 place ≡ record-checked rows index held
     no-type-at t place e = rw e (no-type (denied t))
 
     module _ (t : not a ≡ false) (s : ℕ) (z : s ≡ size) where
       granted : type-follows rows type ≡ true
       granted = sym (g ∙ ap (type-follows rows) d) ∙ not-false a t
 
-      pub starts-past : length held < rows .start → refuse 9 (length held) ≡ record-checked rows index held
+      pub starts-past : length held < rows .start → refuse-of (no-variant (rows .fields .variants)) 9 (length held) ≡ record-checked rows index held
       starts-past h = no-end granted (omega arith)
 
       module _ (b : rows .start ≤ length held) where
-        pub ends-past : length held - rows .start < s → refuse 9 (length held) ≡ record-checked rows index held
+        pub ends-past : length held - rows .start < s → refuse-of (no-variant (rows .fields .variants)) 9 (length held) ≡ record-checked rows index held
         ends-past h = no-end granted (omega arith)
 
         pub there : s ≤ length held - rows .start
@@ -141,8 +142,8 @@ unfolding next-record record-checked record-of type-follows
 all-known rows index held lent work =
     by-bind (λ (u : Unit {0}) (left : List ℕ). Passed rows lent (length work)) _ (state-checked rows lent (length work)) _
     (all-passed rows lent (length work)) (λ u left q.
-    by-need _ (type-follows rows (record-of rows index .record_type)) 8 _ _ (λ t.
-    by-need _ (leb (record-of rows index .end) (length held)) 9 (length held) _ (λ e.
+    by-need-of _ _ (type-follows rows (record-of rows index .record_type)) 8 _ _ (λ t.
+    by-need-of _ _ (leb (record-of rows index .end) (length held)) 9 (length held) _ (λ e.
     let b : BlockVariant = in-block K (rows .variant) in
     let type : ℕ = record-of rows index .record_type in
     let known = allowed b type (both (type-allowed b type) (not (type-leans type) || anchor-told (rows .refusal)) t .0) in (

@@ -16,14 +16,14 @@ use Rattle.format.specs.Variant.{in-block}
 use Rattle.format.specs.Layout.{from-1-to, type-allowed}
 use Rattle.format.specs.Header.{read-layout}
 use Rattle.format.specs.Reply.{keeps-work, holds-row}
-use Rattle.format.proofs.Rules.{Holds, by-test, by-need, by-bind, both, never-both, below-take, below-drop}
+use Rattle.format.proofs.Rules.{Holds, by-test, by-need, by-bind, both, never-both, below-take, below-drop, by-need-of}
 use Rattle.format.proofs.Unique.{apart}
-use Rattle.format.proofs.Refuses.{Refuses, Among, RecordNumber, class-holds, refuses-wider, refuses-need, refuses-then}
+use Rattle.format.proofs.Refuses.{Refuses, Among, RecordNumber, class-holds, refuses-wider, refuses-need, refuses-then, refuses-need-of}
 use Rattle.format.proofs.Refusals.{body-refusals, allowed-kind}
 use Rattle.format.proofs.HeaderRefusals.{header-refusals}
 use Rattle.format.proofs.CallRefusals.{record-clears-work}
 use Rattle.head_places.specs.declared.Place.{Place}
-use Rattle.read_record.specs.Recorded.{RecordLeft, record-left, record-replied, recorded}
+use Rattle.read_record.specs.Recorded.{RecordLeft, record-left, record-replied, recorded, named-left}
 use Rattle.call_rows.specs.declared.Rows.{Rows}
 use Rattle.call_rows.specs.Calls.{start-rows-call, state-checked, record-of, anchor-told, type-follows, record-checked, next-record}
 use Rattle.call_rows.specs.Calls.{Left, row-left, past, answered, alone, leaning, read-at, over-nothing, over-anchor, stepped, next-row-in, next-row-call}
@@ -39,11 +39,11 @@ unfolding start-rows-call
 start-rows-refusals file work =
     refuses-then (Among start-rows-numbers) (read-layout variants-to-a-block file) _
     (refuses-wider header-numbers start-rows-numbers (read-layout variants-to-a-block file) refl (header-refusals variants-to-a-block file)) (λ l left.
-    refuses-need (Among start-rows-numbers) (holds-row work l) _ _ _ refl tt)
+    refuses-need-of (Among start-rows-numbers) _ (holds-row work l) _ _ _ refl tt)
 
 -- ---- a step
 
--- 4, 8 and 9, which a state meets that is not of the file; 10 and 11; 12 to 18
+-- 4, 8 and 9, which a state meets that is not of the file; 10 and 11; 12 to 18 and 23 to 25
 abbrev pub next-row-numbers : List ℕ
 next-row-numbers = 4 ∷ 8 ∷ 9 ∷ 10 ∷ 11 ∷ record-numbers
 
@@ -98,7 +98,7 @@ module _ (rows : Rows) (held output work : List ℕ) (y : Bytes held) where
         (allowed-kind (in-block variants-to-a-block (rows .variant)) type (follows .0))
         (below-drop 256 (p .start) l (below-take 256 (p .end) held y)))
       where
-        go : (m : Out Body) → Refuses RecordNumber m → RecordNumbered (record-replied (rows .fields .samples) row m)
+        go : (m : Out Body) → Refuses RecordNumber m → RecordNumbered (named-left (rows .variant) (record-replied (rows .fields .samples) row m))
         go (ok body left) r = tt
         go (refused why) r = r
 
@@ -127,23 +127,23 @@ unfolding state-checked
 state-numbers rows output work =
     refuses-need (Among next-row-numbers) (from-1-to most-variants (rows .fields .variants)) _ _ _ refl
     (refuses-need (Among next-row-numbers) (from-1-to most-samples (rows .fields .samples)) _ _ _ refl
-    (refuses-need (Among next-row-numbers) (leb (rows .fields .samples) output && leb (rows .fields .samples) work) _ _ _ refl
-    (refuses-need (Among next-row-numbers) (ltb (rows .variant .0) (rows .fields .variants)) _ _ _ refl tt)))
+    (refuses-need-of (Among next-row-numbers) _ (leb (rows .fields .samples) output && leb (rows .fields .samples) work) _ _ _ refl
+    (refuses-need-of (Among next-row-numbers) _ (ltb (rows .variant .0) (rows .fields .variants)) _ _ _ refl tt)))
 
 module _ (rows : Rows) (index held : List ℕ) (output work : ℕ) where
   pub sought-numbers : Refuses (Among next-row-numbers) (next-record rows index held output work)
   unfolding next-record record-checked
   sought-numbers =
       refuses-then (Among next-row-numbers) (state-checked rows output work) _ (state-numbers rows output work) (λ u left.
-      refuses-need (Among next-row-numbers) (type-follows rows (record-of rows index .record_type)) _ _ _ refl
-      (refuses-need (Among next-row-numbers) (leb (record-of rows index .end) (length held)) _ _ _ refl tt))
+      refuses-need-of (Among next-row-numbers) _ (type-follows rows (record-of rows index .record_type)) _ _ _ refl
+      (refuses-need-of (Among next-row-numbers) _ (leb (record-of rows index .end) (length held)) _ _ _ refl tt))
 
   pub sought-follows : Holds (λ (p : Place) (left : List ℕ). type-follows rows (p .record_type) ≡ true) (next-record rows index held output work)
   unfolding next-record record-checked
   sought-follows =
       by-bind (λ u left. Unit {0}) _ (state-checked rows output work) _ (any (state-checked rows output work)) (λ u left q.
-      by-need _ (type-follows rows (record-of rows index .record_type)) 8 _ _ (λ t.
-      by-need _ (leb (record-of rows index .end) (length held)) 9 (length held) _ (λ e. t)))
+      by-need-of _ _ (type-follows rows (record-of rows index .record_type)) 8 _ _ (λ t.
+      by-need-of _ _ (leb (record-of rows index .end) (length held)) 9 (length held) _ (λ e. t)))
     where
       any : (m : Out (Unit {0})) → Holds (λ u left. Unit {0}) m
       any (ok u left) = tt

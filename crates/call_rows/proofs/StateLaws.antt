@@ -11,23 +11,23 @@ use Rattle.format.specs.declared.BlockVariant.{BlockVariant}
 use Rattle.format.specs.declared.Refusal.{Refusal}
 use Rattle.format.specs.declared.Reply.{Reply}
 use Rattle.format.specs.declared.Reply.the-variants.{Accepted}
-use Rattle.format.specs.Base.{Out, ok, refuse, refused, refusal}
+use Rattle.format.specs.Base.{Out, ok, refuse, refused, refusal, refuse-of}
 use Rattle.format.specs.Classes.{record-numbers, among}
 use Rattle.format.specs.Limits.{most-samples, most-variants, variants-to-a-block}
 use Rattle.format.specs.Body.{type-leans}
-use Rattle.format.specs.Variant.{in-block}
+use Rattle.format.specs.Variant.{in-block, no-variant}
 use Rattle.format.specs.Layout.{from-1-to, type-allowed}
 use Rattle.format.specs.Reply.{plain-answer}
-use Rattle.format.proofs.Rules.{Holds, by-need, both}
-use Rattle.format.proofs.Refuses.{Among, class-holds}
+use Rattle.format.proofs.Rules.{Holds, by-need, both, by-need-of, never-both}
+use Rattle.format.proofs.Refuses.{Among, class-holds, every}
 use Rattle.format.proofs.OffsetsLaws.{from-1-to-most}
 use Rattle.head_blocks.proofs.Answers.{granted, denied}
 use Rattle.call_rows.specs.declared.Rows.{Rows}
 use Rattle.call_rows.specs.Calls.{state-checked, anchor-told, type-follows, Standing}
 
 -- a refusal that was made, as what is answered
-pub refused-as : {A : Type 0} (why : Refusal) (number place : ℕ) (m : Out A) → why ≡ refusal number place → refuse number place ≡ m → refused why ≡ m
-refused-as why number place m e q = ap refused e ∙ q
+pub refused-as : {A : Type 0} (why said : Refusal) (m : Out A) → why ≡ said → refused said ≡ m → refused why ≡ m
+refused-as why said m e q = ap refused e ∙ q
 
 -- ---- `state_checked`
 
@@ -48,25 +48,25 @@ module _ (rows : Rows) (output work : ℕ) where
     bad-samples h = simp (m, h)
 
     module _ (n : from-1-to most-samples N ≡ true) where
-      pub short-output : output < N → refuse 10 0 ≡ state-checked rows output work
+      pub short-output : output < N → refuse-of (no-variant M) 10 0 ≡ state-checked rows output work
       unfolding state-checked
       short-output h = simp (m, n, lt-leb)
 
       module _ (o : N ≤ output) where
-        pub short-work : work < N → refuse 10 0 ≡ state-checked rows output work
+        pub short-work : work < N → refuse-of (no-variant M) 10 0 ≡ state-checked rows output work
         unfolding state-checked
         short-work h = simp (m, n, le-leb, lt-leb)
 
         module _ (w : N ≤ work) where
-          pub no-variant : M ≤ rows .variant .0 → refuse 11 0 ≡ state-checked rows output work
+          pub not-below : M ≤ rows .variant .0 → refuse-of (no-variant M) 11 0 ≡ state-checked rows output work
           unfolding state-checked
-          no-variant h = simp (m, n, le-leb, le-ltb)
+          not-below h = simp (m, n, le-leb, le-ltb)
 
           pub state-fine : rows .variant .0 < M → _≡_ {A = Out (Unit {0})} (ok tt []) (state-checked rows output work)
           unfolding state-checked
           state-fine h = simp (m, n, le-leb, lt-ltb)
 
-pub ruleset state-laws = (refused-as, granted, denied, bad-variants, bad-samples, short-output, short-work, no-variant, state-fine)
+pub ruleset state-laws = (refused-as, granted, denied, bad-variants, bad-samples, short-output, short-work, not-below, state-fine)
 
 -- ---- where it is accepted
 
@@ -81,8 +81,8 @@ module _ (rows : Rows) (output work : ℕ) where
   all-passed =
       by-need _ (from-1-to most-variants (rows .fields .variants)) 4 3 _ (λ m.
       by-need _ (from-1-to most-samples (rows .fields .samples)) 4 7 _ (λ n.
-      by-need _ (leb (rows .fields .samples) output && leb (rows .fields .samples) work) 10 0 _ (λ s.
-      by-need _ (ltb (rows .variant .0) (rows .fields .variants)) 11 0 _ (λ b.
+      by-need-of _ _ (leb (rows .fields .samples) output && leb (rows .fields .samples) work) 10 0 _ (λ s.
+      by-need-of _ _ (ltb (rows .variant .0) (rows .fields .variants)) 11 0 _ (λ b.
       let both-hold = both (leb (rows .fields .samples) output) (leb (rows .fields .samples) work) s in
       record {
         standing = record {
@@ -99,7 +99,7 @@ module _ (rows : Rows) (output work : ℕ) where
 
 -- ---- `anchor_told`
 
--- a record's numbers are those from 12 to 18
+-- a record's numbers are those from 12 to 18 and from 23 to 25
 from-12 : (k : ℕ) → k < 7 → among record-numbers (12 + k) ≡ true
 from-12 zero h = refl
 from-12 (suc zero) h = refl
@@ -110,38 +110,56 @@ from-12 (suc (suc (suc (suc (suc zero))))) h = refl
 from-12 (suc (suc (suc (suc (suc (suc zero)))))) h = refl
 from-12 (suc (suc (suc (suc (suc (suc (suc k))))))) h = absurd (omega arith)
 
-record-class : (number : ℕ) → leb 12 number && leb number 18 ≡ among record-numbers number
-record-class number = go (leb 12 number) refl (leb number 18) refl (among record-numbers number) refl
-  where
-    within : (b : Bool) → Among record-numbers number → leb 12 number && leb number 18 ≡ b → b ≡ true
-    within b h e = sym e ∙ class-holds (λ (n : ℕ). leb 12 n && leb n 18) record-numbers number refl h
+from-23 : (k : ℕ) → k < 3 → among record-numbers (23 + k) ≡ true
+from-23 zero h = refl
+from-23 (suc zero) h = refl
+from-23 (suc (suc zero)) h = refl
+from-23 (suc (suc (suc k))) h = absurd (omega arith)
 
-    go : (a : Bool) → leb 12 number ≡ a → (b : Bool) → leb number 18 ≡ b → (c : Bool) → among record-numbers number ≡ c → a && b ≡ c
-    go true p true q c e =
-        let l = leb-true 12 number p in
-        let m = leb-true number 18 q in
-        let n : 12 + (number - 12) ≡ number = omega arith in
-        sym (from-12 (number - 12) (omega arith)) ∙ ap (among record-numbers) n ∙ e
-    go true p false q true e = within false e (ap₂ _&&_ p q)
-    go true p false q false e = refl
-    go false p b q true e = within false e (ap (λ (z : Bool). z && leb number 18) p)
-    go false p b q false e = refl
+-- what holds of all of them holds of no other number
+no-record : (test : ℕ → Bool) → every test record-numbers ≡ true → (number : ℕ) → test number ≡ false → among record-numbers number ≡ false
+no-record test t number f = go (among record-numbers number) refl
+  where
+    go : (b : Bool) → among record-numbers number ≡ b → b ≡ false
+    go true e = never-both (class-holds test record-numbers number t e) f
+    go false e = refl
 
 module _ (why : Refusal) where
-  pub told-none : why .number ≡ 0 → true ≡ anchor-told why
+  abbrev number : ℕ
+  number = why .number
+
+  pub told-none : number ≡ 0 → true ≡ anchor-told why
   unfolding anchor-told
-  told-none z = rw (eq-eqb (why .number) 0 z)
+  told-none z = rw (eq-eqb number 0 z)
 
-  module _ (z : why .number ≡ 0 → ⊥) where
-    pub told-below : why .number < 12 → false ≡ anchor-told why
+  module _ (z : number ≡ 0 → ⊥) where
+    told-as : {b : Bool} → among record-numbers number ≡ b → b ≡ anchor-told why
     unfolding anchor-told
-    told-below h = rw (ne-eqb (why .number) 0 z, ← record-class (why .number), lt-leb 12 (why .number) h)
+    told-as e = rw (ne-eqb number 0 z, e)
 
-    pub told-to-18 : 12 ≤ why .number → leb (why .number) 18 ≡ anchor-told why
-    unfolding anchor-told
-    told-to-18 h = rw (ne-eqb (why .number) 0 z, ← record-class (why .number), le-leb 12 (why .number) h)
+    pub told-below : number < 12 → false ≡ anchor-told why
+    told-below h = told-as (no-record (leb 12) refl number (lt-leb 12 number h))
 
-pub ruleset told-laws = (told-none, told-below, told-to-18)
+    module _ (l : 12 ≤ number) where
+      pub told-to-18 : number ≤ 18 → true ≡ anchor-told why
+      told-to-18 h =
+          let e : 12 + (number - 12) ≡ number = omega arith in
+          told-as (ap (among record-numbers) (sym e) ∙ from-12 (number - 12) (omega arith))
+
+      module _ (m : 18 < number) where
+        pub told-between : number < 23 → false ≡ anchor-told why
+        told-between h = told-as (no-record (λ (n : ℕ). leb n 18 || leb 23 n) refl number (rw (lt-leb number 18 m, lt-leb 23 number h) refl))
+
+        pub told-to-25 : 23 ≤ number → leb number 25 ≡ anchor-told why
+        told-to-25 h = told-as (go (leb number 25) refl)
+          where
+            go : (b : Bool) → leb number 25 ≡ b → among record-numbers number ≡ b
+            go true e =
+                let k : 23 + (number - 23) ≡ number = omega arith in
+                ap (among record-numbers) (sym k) ∙ from-23 (number - 23) (omega (arith, leb-true number 25 e))
+            go false e = no-record (λ (n : ℕ). leb n 25) refl number e
+
+pub ruleset told-laws = (told-none, told-below, told-to-18, told-between, told-to-25)
 
 -- ---- `type_follows`
 

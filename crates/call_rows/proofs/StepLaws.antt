@@ -13,19 +13,25 @@ use borrow.Author.Tests.{eq-eqb, ne-eqb}
 use Rattle.format.specs.declared.Refusal.{Refusal}
 use Rattle.format.specs.declared.Reply.{Reply}
 use Rattle.format.specs.declared.Reply.the-variants.{Accepted, Refused}
-use Rattle.format.specs.Base.{pick, Out, ok, refused, refusal}
+use Rattle.format.specs.Base.{pick, Out, ok, refused, refusal, naming}
 use Rattle.format.specs.Body.{type-leans, type-phased, Body, read-body}
 use Rattle.format.specs.Variant.{file-variant}
+use Rattle.format.specs.Reply.{named-reply}
 use Rattle.head_places.specs.declared.Place.{Place}
-use Rattle.read_record.specs.Recorded.{replied, record-left, record-replied, recorded}
+use Rattle.read_record.specs.Recorded.{replied, record-left, record-replied, recorded, named-left}
+use Rattle.read_record.proofs.NamedLaws.{replied-named, left-named}
 use Rattle.read_check.specs.Checked.{body-checked}
 use Rattle.call_rows.specs.declared.Rows.{Rows}
 use Rattle.call_rows.specs.Calls.{Left, row-left, past, answered, alone, leaning, read-at, leaning-checked, over-nothing, over-anchor, RowReady}
 
 -- ---- a record that leans on none
 
-module _ (rows : Rows) (held : List ℕ) (p : Place) (output work : List ℕ) (next : Rows) (got : Reply) (work₁ : List ℕ)
-    (told : record-left got work₁ ≡ read-at rows held p work) where
+module _ (rows : Rows) (held : List ℕ) (p : Place) (output work : List ℕ) (next : Rows) (read got : Reply) (work₁ : List ℕ)
+    (d : record-left read work₁ ≡ recorded (rows .fields .samples) (p .record_type) (take (p .end) held) (p .start) work)
+    (v : got ≡ named-reply (rows .variant) read) where
+  told : record-left got work₁ ≡ read-at rows held p work
+  told = rw v (ap (named-left (rows .variant)) d)
+
   pub alone-refused : (why : Refusal) → next ≡ past rows (p .end) why → got ≡ Refused why
       → row-left (answered next (Refused why)) output work₁ ≡ over-nothing rows held p output work
   alone-refused why n q = rw n (ap (alone rows (p .end) output) (rw q at told))
@@ -42,10 +48,11 @@ module _ (rows : Rows) (held : List ℕ) (p : Place) (work : List ℕ) where
   unfolding leaning-checked
   checked-anchor r = rw (ne-eqb (rows .refusal .number) 0 r)
 
-  pub checked-body : rows .refusal .number ≡ 0 → (got : Reply)
-      → got ≡ body-checked (rows .fields .samples) (p .record_type) (take (p .end) held) (p .start) work → got ≡ leaning-checked rows held p work
+  pub checked-body : rows .refusal .number ≡ 0 → (read got : Reply)
+      → read ≡ body-checked (rows .fields .samples) (p .record_type) (take (p .end) held) (p .start) work → got ≡ named-reply (rows .variant) read
+      → got ≡ leaning-checked rows held p work
   unfolding leaning-checked
-  checked-body z got e = rw (eq-eqb (rows .refusal .number) 0 z) e
+  checked-body z read got e v = rw (eq-eqb (rows .refusal .number) 0 z) (v ∙ ap (named-reply (rows .variant)) e)
 
 -- a type that leans is not of a record that is phased and leans on none
 pub leans-there : (type : ℕ) → type-leans type ≡ true → type-phased type ≡ true → type-leans type ≡ true
@@ -60,9 +67,9 @@ module _ (rows : Rows) (held : List ℕ) (p : Place) (output work : List ℕ) (r
   abbrev cut : List ℕ
   cut = take (p .end) held
 
-  -- the record, over the anchor's row
-  abbrev read : Out Body
-  read = read-body (length cut) N (take N work) (p .record_type) (drop (p .start) cut)
+  -- the record, over the anchor's row; a refusal names its variant
+  abbrev pub read : Out Body
+  read = naming (rows .variant) (read-body (length cut) N (take N work) (p .record_type) (drop (p .start) cut))
 
   abbrev copied : List ℕ
   copied = take N work ++ drop N output
@@ -73,7 +80,10 @@ module _ (rows : Rows) (held : List ℕ) (p : Place) (output work : List ℕ) (r
   -- read over a copy of the row, it is read alike
   pub over-copy : read-at rows held p copied ≡ record-replied N copied read
   unfolding recorded
-  over-copy = ap (λ (lent : List ℕ). record-replied N copied (read-body (length cut) N lent (p .record_type) (drop (p .start) cut))) same-row
+  over-copy =
+      ap (λ (lent : List ℕ). named-left (rows .variant) (record-replied N copied (read-body (length cut) N lent (p .record_type) (drop (p .start) cut))))
+      same-row
+      ∙ left-named (rows .variant) N copied (read-body (length cut) N (take N work) (p .record_type) (drop (p .start) cut))
 
   -- what the check says, by how the anchor was read and how the record is
   abbrev pub checked-as : Bool → Out Body → Reply
@@ -90,7 +100,10 @@ module _ (rows : Rows) (held : List ℕ) (p : Place) (output work : List ℕ) (r
   module _ (next : Rows) (n : next ≡ past rows (p .end) (rows .refusal)) (got : Reply) (told : got ≡ leaning-checked rows held p work) where
     pub checked : got ≡ checked-as (eqb (rows .refusal .number) 0) read
     unfolding leaning-checked body-checked
-    checked = told
+    checked =
+        told
+        ∙ ap (λ (reply : Reply). pick (eqb (rows .refusal .number) 0) reply (Refused (rows .refusal)))
+        (replied-named (rows .variant) (read-body (length cut) N (take N work) (p .record_type) (drop (p .start) cut)))
 
     pub leaning-refused : (why : Refusal) → got ≡ Refused why → row-left (answered next (Refused why)) output work ≡ over-anchor rows held p output work
     leaning-refused why q = go (eqb (rows .refusal .number) 0) read checked ∙ sym over
@@ -109,7 +122,8 @@ module _ (rows : Rows) (held : List ℕ) (p : Place) (output work : List ℕ) (r
         go false m e r = absurd (let y : _≡_ {A = ℕ} 0 1 = cc in omega arith)
         go true (refused other) e r = absurd (let y : _≡_ {A = ℕ} 0 1 = cc in omega arith)
         go true (ok body left) e r =
-            let again : record-left got₂ output₂ ≡ record-replied N copied (ok body left) = rw f at d ∙ over-copy ∙ ap (record-replied N copied) r in
+            let again : record-left (named-reply (rows .variant) got₂) output₂ ≡ record-replied N copied (ok body left)
+            = ap (named-left (rows .variant)) (rw f at d) ∙ over-copy ∙ ap (record-replied N copied) r in
             cc
 
 -- the data cut where the record ends

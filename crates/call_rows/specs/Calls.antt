@@ -11,18 +11,18 @@ use Rattle.format.specs.declared.Fields.{Fields}
 use Rattle.format.specs.declared.Reply.{Reply}
 use Rattle.format.specs.declared.Reply.the-variants.{Accepted, Refused}
 use Rattle.format.specs.declared.Refusal.{Refusal}
-use Rattle.format.specs.Base.{pick, Out, ok, refused, refusal, bind, need}
+use Rattle.format.specs.Base.{pick, Out, ok, refused, refusal, bind, need, need-of}
 use Rattle.format.specs.Limits.{most-samples, most-variants, variants-to-a-block}
 use Rattle.format.specs.Classes.{record-numbers, among}
 use Rattle.format.specs.Body.{kind-of, type-leans}
-use Rattle.format.specs.Variant.{file-variant, next-variant, in-block}
+use Rattle.format.specs.Variant.{file-variant, no-variant, next-variant, in-block}
 use Rattle.format.specs.Layout.{fields-of, from-1-to, first-record, Layout, fixed-of, type-allowed}
 use Rattle.format.specs.Header.{type-place}
-use Rattle.format.specs.Reply.{Verdict, verdict, plain-answer, holds-row, with-layout}
+use Rattle.format.specs.Reply.{Verdict, verdict, named-reply, plain-answer, holds-row, with-layout}
 use Rattle.head_blocks.specs.Parts.{fixed}
 use Rattle.head_records.specs.Extent.{record-type, record-size}
 use Rattle.head_places.specs.declared.Place.{Place}
-use Rattle.read_record.specs.Recorded.{RecordLeft, record-left, recorded}
+use Rattle.read_record.specs.Recorded.{RecordLeft, record-left, named-left, recorded}
 use Rattle.read_check.specs.Checked.{body-checked}
 use Rattle.call_rows.specs.declared.Rows.{Rows}
 use Rattle.call_rows.specs.declared.RowsReply.{RowsReply}
@@ -54,13 +54,13 @@ start-rows-call file work = with-layout variants-to-a-block file (holds-row work
 -- ---- what refuses a call before a record is read
 
 -- By the state alone and the sizes of output and work area. 01, Replies: 4, "M or N outside its range", "3 or 7, M first", as the header check has it;
--- 10, "a lent buffer of wrong size"; 11, "variant not below M".
+-- 10, "a lent buffer of wrong size"; 11, "variant not below M". 02, Ask 2: "M where no variant is concerned, 0 in 1 to 4".
 unfoldable pub state-checked : Rows → ℕ → ℕ → Out (Unit {0})
 state-checked rows output work =
     need (from-1-to most-variants (rows .fields .variants)) 4 3
     (need (from-1-to most-samples (rows .fields .samples)) 4 7
-    (need (leb (rows .fields .samples) output && leb (rows .fields .samples) work) 10 0
-    (need (ltb (rows .variant .0) (rows .fields .variants)) 11 0 (ok tt []))))
+    (need-of (no-variant (rows .fields .variants)) (leb (rows .fields .samples) output && leb (rows .fields .samples) work) 10 0
+    (need-of (no-variant (rows .fields .variants)) (ltb (rows .variant .0) (rows .fields .variants)) 11 0 (ok tt []))))
 
 -- the record of the state's variant: where it starts and ends, and its type
 unfoldable pub record-of : Rows → List ℕ → Place
@@ -78,11 +78,11 @@ anchor-told why = among (0 ∷ record-numbers) (why .number)
 unfoldable pub type-follows : Rows → ℕ → Bool
 type-follows rows type = type-allowed (in-block variants-to-a-block (rows .variant)) type && (not (type-leans type) || anchor-told (rows .refusal))
 
--- 8, "type not allowed"; 9, "records don't end at the file's end"
+-- 8, "type not allowed", which names the state's variant; 9, "records don't end at the file's end"
 unfoldable pub record-checked : Rows → List ℕ → List ℕ → Out Place
 record-checked rows index held =
-    need (type-follows rows (record-of rows index .record_type)) 8 (type-place variants-to-a-block (fixed (rows .fields)) (rows .variant))
-    (need (leb (record-of rows index .end) (length held)) 9 (length held) (ok (record-of rows index) []))
+    need-of (rows .variant) (type-follows rows (record-of rows index .record_type)) 8 (type-place variants-to-a-block (fixed (rows .fields)) (rows .variant))
+    (need-of (no-variant (rows .fields .variants)) (leb (record-of rows index .end) (length held)) 9 (length held) (ok (record-of rows index) []))
 
 -- A file's own states, stepped over that file, are never refused with 4, 8 or 9.
 unfoldable pub next-record : Rows → List ℕ → List ℕ → ℕ → ℕ → Out Place
@@ -105,7 +105,7 @@ pub record Left : Type 0 where
 abbrev pub row-left : RowStep → List ℕ → List ℕ → Left
 row-left step output work = record { verdict = verdict (plain-answer (step .reply)); rows = step .rows; output = output; work = work }
 
--- past a record that ends there, with how the last record that leans on none was refused: number 0 at place 0 if it was accepted
+-- past a record that ends there, with how the last record that leans on none was refused, its own variant named: number 0 at place 0 if it was accepted
 abbrev pub past : Rows → ℕ → Refusal → Rows
 past rows end why = record { fields = rows .fields; variant = next-variant (rows .variant); start = end; refusal = why }
 
@@ -123,15 +123,15 @@ abbrev pub leaning : Rows → ℕ → List ℕ → List ℕ → RecordLeft → L
 leaning rows end output work (record-left Accepted row) = row-left (answered (past rows end (rows .refusal)) Accepted) row work
 leaning rows end output work (record-left (Refused why) row) = row-left (answered (past rows end (rows .refusal)) (Refused why)) output work
 
--- a record at its place, over a row
+-- a record at its place, over a row. 02, Ask 2: a refusal names "the variant in whose record or type the fault lies"
 abbrev pub read-at : Rows → List ℕ → Place → List ℕ → RecordLeft
-read-at rows held p row = recorded (rows .fields .samples) (p .record_type) (take (p .end) held) (p .start) row
+read-at rows held p row = named-left (rows .variant) (recorded (rows .fields .samples) (p .record_type) (take (p .end) held) (p .start) row)
 
 -- 01, Replies: "an anchor is checked before the record that leans on it": refused as its anchor was, or checked over the anchor's row
 unfoldable pub leaning-checked : Rows → List ℕ → Place → List ℕ → Reply
 leaning-checked rows held p work =
     pick (eqb (rows .refusal .number) 0)
-    (body-checked (rows .fields .samples) (p .record_type) (take (p .end) held) (p .start) work)
+    (named-reply (rows .variant) (body-checked (rows .fields .samples) (p .record_type) (take (p .end) held) (p .start) work))
     (Refused (rows .refusal))
 
 -- a record that leans on none, read in the work area

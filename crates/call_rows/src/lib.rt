@@ -25,7 +25,9 @@ use format::MOST_SAMPLES;
 use format::MOST_VARIANTS;
 use format::Refusal;
 use format::Reply;
+use format::named_reply;
 use format::refusal_at;
+use format::refusal_of;
 use head_blocks::blocks_of;
 use head_blocks::first_record;
 use head_check::from_1_to;
@@ -42,7 +44,8 @@ pub mod phased;
 
 pub use phased::next_phased_row;
 
-// The next variant, where its record starts, and how the last record that leans on none was refused: number 0 at place 0 if it was accepted.
+// The next variant, where its record starts, and how the last record that leans on none was refused, with its own variant: number 0 at place 0 if it was
+// accepted.
 pub struct Rows {
     pub fields: Fields,
     pub variant: FileVariant,
@@ -98,18 +101,18 @@ fn state_checked(rows: Rows, output: usize, work: usize) -> Reply
         return Reply::Refused(refusal_at(4, 7));
     }
     if output < f.samples {
-        return Reply::Refused(call_refusal(10));
+        return Reply::Refused(call_refusal(10, FileVariant(f.variants)));
     }
     if work < f.samples {
-        return Reply::Refused(call_refusal(10));
+        return Reply::Refused(call_refusal(10, FileVariant(f.variants)));
     }
     if f.variants <= rows.variant.0 {
-        return Reply::Refused(call_refusal(11));
+        return Reply::Refused(call_refusal(11, FileVariant(f.variants)));
     }
     Reply::Accepted
 }
 
-// Whether a state tells how its anchor was read: accepted, 0, or refused as a record is, 12 to 18. One that no start gave may tell anything.
+// Whether a state tells how its anchor was read: accepted, 0, or refused as a record is, 12 to 18 and 23 to 25. One that no start gave may tell anything.
 fn anchor_told(why: Refusal) -> bool
     ensures { λ r. ⌜ r ≡ anchor-told why ⌝ }
 {
@@ -119,7 +122,13 @@ fn anchor_told(why: Refusal) -> bool
     if why.number < 12 {
         return false;
     }
-    why.number <= 18
+    if why.number <= 18 {
+        return true;
+    }
+    if why.number < 23 {
+        return false;
+    }
+    why.number <= 25
 }
 
 // Whether a record of this type may come next: no record leans where no anchor is told of.
@@ -160,14 +169,14 @@ fn record_checked(rows: Rows, index: &[u8], held: &[u8]) -> NextRecord
     let start = rows.start;
     let record_type = type_of(index, f, v);
     if !type_follows(rows, record_type) {
-        return NextRecord::Refused(refusal_at(8, place_of_type(f, v)));
+        return NextRecord::Refused(refusal_of(v, 8, place_of_type(f, v)));
     }
     let size = size_of(index, f, v);
     if held.len() < start {
-        return NextRecord::Refused(refusal_at(9, held.len()));
+        return NextRecord::Refused(refusal_of(FileVariant(f.variants), 9, held.len()));
     }
     if held.len() - start < size {
-        return NextRecord::Refused(refusal_at(9, held.len()));
+        return NextRecord::Refused(refusal_of(FileVariant(f.variants), 9, held.len()));
     }
     NextRecord::At(Place {
         start,
@@ -208,7 +217,8 @@ fn step_alone(rows: Rows, held: &[u8], p: Place, output: &mut [u8], work: &mut [
 {
     let end = p.end;
     let n = rows.fields.samples;
-    let got = read_body(&held[..end], Cursor { at: p.start }, n, p.record_type, work);
+    let read = read_body(&held[..end], Cursor { at: p.start }, n, p.record_type, work);
+    let got = named_reply(rows.variant, read);
     match got {
         Reply::Refused(why) => RowStep {
             rows: past(rows, end, why),
@@ -235,7 +245,8 @@ fn leaning_checked(rows: Rows, held: &[u8], p: Place, work: &[u8]) -> Reply
         return Reply::Refused(anchors);
     }
     let n = rows.fields.samples;
-    check_body(&held[..end], Cursor { at: p.start }, n, p.record_type, work)
+    let got = check_body(&held[..end], Cursor { at: p.start }, n, p.record_type, work);
+    named_reply(rows.variant, got)
 }
 
 // It is read in the output over a copy of the work area, which stays: a refusal finds the output untouched.

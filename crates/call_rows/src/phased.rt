@@ -16,6 +16,7 @@ use base_cursor::Cursor;
 use base_rows::copy;
 use call_open::shorter;
 use format::Reply;
+use format::named_reply;
 use format::refusal_at;
 use head_places::Place;
 use head_types::type_leans;
@@ -36,7 +37,7 @@ fn phased_alone(
 {
     let end = p.end;
     let n = rows.fields.samples;
-    let got = read_phased(
+    let read = read_phased(
         &held[..end],
         Cursor { at: p.start },
         n,
@@ -44,6 +45,7 @@ fn phased_alone(
         work,
         phases,
     );
+    let got = named_reply(rows.variant, read);
     match got {
         Reply::Refused(why) => RowStep {
             rows: past(rows, end, why),

@@ -17,7 +17,7 @@ use Rattle.format.specs.Layout.{block-count, block-sizes, blocks-bytes, 
 use Rattle.format.specs.Layout.{ColumnsUnblocked, ColumnsObey, header-end, header-bytes, in-parts}
 unfoldable pub use Rattle.format.specs.Layout.{OffsetsFit, AllFit}
 use Rattle.format.specs.Header.{read-fixed, need-fixed, read-blocks, read-blocked, unblocked-arrays, read-arrays}
-use Rattle.format.proofs.Rules.{Holds, by-test, need-then, by-need, by-bind, by-map, below-after}
+use Rattle.format.proofs.Rules.{Holds, by-test, need-then, by-need, by-bind, by-map, below-after, by-need-of, need-of-then}
 use Rattle.format.proofs.NumbersLaws.{IsNumber, number-read-back, number-as-written, number-length, AreNumbers, numbers-read-back, numbers-as-written}
 use Rattle.format.proofs.NumbersLaws.{numbers-length}
 use Rattle.format.proofs.PackedLaws.{ArePacked, packed-read-back, packed-as-written, packed-length}
@@ -66,7 +66,7 @@ by-fixed Q f next b h =
     by-need Q (mode-covered (f .mode)) _ _ _ (λ t₂.
     by-need Q (from-1-to most-variants (f .variants)) _ _ _ (λ t₃.
     by-need Q (from-1-to most-samples (f .samples)) _ _ _ (λ t₄.
-    by-need Q (form-allowed (f .mode) (f .form)) _ _ _ (λ t₅.
+    by-need-of Q _ (form-allowed (f .mode) (f .form)) _ _ _ (λ t₅.
     h (record { magic = eqb-true _ _ t₁; mode = t₂; variants = t₃; samples = t₄; form = t₅; form-byte = b }))))))
 
 -- fields that obey pass
@@ -77,7 +77,7 @@ fixed-pass f next h = simp (eq-eqb _ _ (h .magic), h .mode, h .variants, h .samp
 -- what follows them all may be said within them
 pub fixed-then : {A B : Type 0} (f : Fixed) (m : Out A) (next : A → List ℕ → Out B) → bind (need-fixed f m) next ≡ need-fixed f (bind m next)
 unfolding need-fixed
-fixed-then f m next = simp need-then
+fixed-then f m next = simp (need-then, need-of-then)
 
 -- ---- the arrays
 

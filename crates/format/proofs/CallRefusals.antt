@@ -9,24 +9,24 @@ use lib.Dec.{eqb, ltb, leb}
 use native.Mathlib.Omega.{arith}
 use borrow.Author.Tests.{ltb-true}
 use Rattle.format.specs.declared.FileVariant.{FileVariant}
-use Rattle.format.specs.Base.{pick, Bytes, Out, need}
+use Rattle.format.specs.Base.{pick, Bytes, Out, need, naming, need-of}
 use Rattle.format.specs.Limits.{most-samples}
 use Rattle.format.specs.Classes.{header-numbers, record-numbers, writer-numbers, phased-writer-numbers, among}
 use Rattle.format.specs.PairCode.{Coded, coded, not-coded, code-numbered}
 use Rattle.format.specs.Track.{Kind, array, paired, against-anchor, against-category, no-kind, kind, leans, Track, track-bytes}
 use Rattle.format.specs.Phase.{first-of, rest-of}
 use Rattle.format.specs.Body.{Body, body-bytes, body-categories, read-body, type-leans}
-use Rattle.format.specs.Variant.{file-variant, next-variant, in-block, anchor}
+use Rattle.format.specs.Variant.{file-variant, next-variant, in-block, anchor, no-variant}
 use Rattle.format.specs.Layout.{from-1-to, first-record, Layout, fixed-of, record-start, TypesAllowed, LayoutObeys}
 use Rattle.format.specs.Header.{read-layout}
 use Rattle.format.specs.File.{next-anchor, read-records, read-all, type-of, over-as, read-over, variant-as, read-variant, variant-leans}
 use Rattle.format.specs.Writer.{pair-track, kind-track, track-for, need-categories, with-track, write-record, phase-allowed, need-phases, phased-body}
 use Rattle.format.specs.Writer.{write-phased}
 use Rattle.format.specs.Reply.{keeps-work, holds-row, holds-set, with-layout, checked, check-out, need-variant, out-as, lookup-out, view-out, past-last}
-use Rattle.format.specs.Reply.{flip-out}
+use Rattle.format.specs.Reply.{flip-out, need-sample}
 use Rattle.format.proofs.Rules.{by-test}
 use Rattle.format.proofs.Refuses.{Refuses, Among, HeaderNumber, RecordNumber, every, class-holds, refuses-wider, refuses-need, refuses-map, refuses-bind}
-use Rattle.format.proofs.Refuses.{refuses-then}
+use Rattle.format.proofs.Refuses.{refuses-then, refuses-need-of, refuses-naming}
 use Rattle.format.proofs.Refusals.{body-refusals, allowed-kind}
 use Rattle.format.proofs.AnchorLaws.{IsAnchor, anchor-is, type-allowed-in}
 use Rattle.format.proofs.HeaderLaws.{IsLayout, layout-as-written}
@@ -37,14 +37,15 @@ use Rattle.format.proofs.FileLaws.{AllBytes, bodies-are-bytes, one-type
 
 -- in variant order
 records-refusals : (K N start : ℕ) (v : FileVariant) (lent types : List ℕ) (stored : List (List ℕ)) → TypesAllowed K v types → AllBytes stored
-    → Refuses RecordNumber (read-records N start lent types stored)
+    → Refuses RecordNumber (read-records N v start lent types stored)
 unfolding read-records
 records-refusals K N start v lent [] stored h y = tt
 records-refusals K N start v lent (type ∷ types) [] h y = tt
 records-refusals K N start v lent (type ∷ types) (bs ∷ stored) h y =
-    refuses-then RecordNumber (read-body (start + length bs) N lent type bs) _
-    (body-refusals (start + length bs) N lent type bs (allowed-kind (in-block K v) type (h .0)) (y .0)) (λ body left.
-    refuses-map RecordNumber _ (read-records N (start + length bs) (next-anchor (type-leans type) lent (body-categories N lent body)) types stored)
+    refuses-then RecordNumber (naming v (read-body (start + length bs) N lent type bs)) _
+    (refuses-naming RecordNumber v (read-body (start + length bs) N lent type bs)
+    (body-refusals (start + length bs) N lent type bs (allowed-kind (in-block K v) type (h .0)) (y .0))) (λ body left.
+    refuses-map RecordNumber _ (read-records N (next-variant v) (start + length bs) (next-anchor (type-leans type) lent (body-categories N lent body)) types stored)
     (records-refusals K N (start + length bs) (next-variant v) (next-anchor (type-leans type) lent (body-categories N lent body)) types stored (h .1) (y .1)))
 
 pub stored-bytes : (v : ℕ) (stored : List (List ℕ)) → AllBytes stored → Bytes (getD stored v [])
@@ -63,10 +64,12 @@ module _ (K : ℕ) (l : Layout) (p : zero < K) (h : LayoutObeys K l) (y : AllByt
   unfolding over-as
   over-refusals what lent v m =
       let there : v .0 < length (l .types) = omega (arith, one-type-each K l h) in
-      refuses-map RecordNumber _ (read-body (record-start K l (next-variant v)) (l .samples) lent (type-of l v) (getD (l .bodies) (v .0) []))
+      let read : Out Body = read-body (record-start K l (next-variant v)) (l .samples) lent (type-of l v) (getD (l .bodies) (v .0) []) in
+      refuses-map RecordNumber _ (naming v read)
+      (refuses-naming RecordNumber v read
       (body-refusals (record-start K l (next-variant v)) (l .samples) lent (type-of l v) (getD (l .bodies) (v .0) [])
       (allowed-kind (in-block K v) (type-of l v) (type-allowed-in K (l .types) p (h .types) v there))
-      (stored-bytes (v .0) (l .bodies) y))
+      (stored-bytes (v .0) (l .bodies) y)))
 
   -- of one variant and its anchor
   pub variant-refusals : {A : Type 0} (what : ℕ → List ℕ → Body → A) (v : FileVariant) → v .0 < length (l .bodies)
@@ -91,7 +94,7 @@ layout-refusals : {A : Type 0} (class : List ℕ) (K : ℕ) (file : List ℕ) (s
 layout-refusals class K file sized next p y t ten r =
     refuses-bind (IsLayout K file) (Among class) (read-layout K file) _ (layout-as-written K file p y)
     (refuses-wider header-numbers class (read-layout K file) t (header-refusals K file)) (λ l left w.
-    refuses-need (Among class) (sized l) _ _ _ ten (r l (w .obeys) (bodies-are-bytes K file l y (w .written))))
+    refuses-need-of (Among class) _ (sized l) _ _ _ ten (r l (w .obeys) (bodies-are-bytes K file l y (w .written))))
 
 -- 11, then what is known of the variant
 variant-there : {A : Type 0} (P : ℕ → Type 0) (v : FileVariant) (l : Layout) (next : Out A) → P 11 → (v .0 < length (l .bodies) → Refuses P next)
@@ -134,21 +137,21 @@ pub lookup-refusals : (K : ℕ) (file : List ℕ) (v : FileVariant) (sample : �
     → Refuses (Among read-call-numbers) (lookup-out K file v sample work)
 lookup-refusals K file v sample work p y =
     layout-refusals read-call-numbers K file (holds-row work)
-    (λ (l : Layout). need-variant v l (need (ltb sample (l .samples)) 11 0 (read-variant K l v))) p y refl refl (λ l h z.
+    (λ (l : Layout). need-variant v l (need-sample v sample l (read-variant K l v))) p y refl refl (λ l h z.
     variant-there (Among read-call-numbers) v l _ refl (λ m.
-    refuses-need (Among read-call-numbers) (ltb sample (l .samples)) _ _ _ refl
+    refuses-need-of (Among read-call-numbers) v (ltb sample (l .samples)) _ _ _ refl
     (refuses-wider record-numbers read-call-numbers (read-variant K l v) refl (variant-refusals K l p h z body-categories v m))))
 
 pub view-refusals : (K : ℕ) (file : List ℕ) (v : FileVariant) → Refuses (Among view-numbers) (view-out K file v)
 view-refusals K file v =
     refuses-then (Among view-numbers) (read-layout K file) _ (refuses-wider header-numbers view-numbers (read-layout K file) refl (header-refusals K file))
-    (λ l left. refuses-need (Among view-numbers) (ltb (v .0) (length (l .bodies))) _ _ _ refl tt)
+    (λ l left. refuses-need-of (Among view-numbers) _ (ltb (v .0) (length (l .bodies))) _ _ _ refl tt)
 
 pub flip-refusals : (K : ℕ) (file set work : List ℕ) → zero < K → Bytes file → Refuses (Among flip-numbers) (flip-out K file set work)
 flip-refusals K file set work p y =
     layout-refusals flip-numbers K file (λ (l : Layout). holds-set set l && holds-row work l)
-    (λ (l : Layout). need (eqb (past-last (length (l .bodies)) set) 0) 21 0 (checked K l)) p y refl refl (λ l h z.
-    refuses-need (Among flip-numbers) (eqb (past-last (length (l .bodies)) set) 0) _ _ _ refl
+    (λ (l : Layout). need-of (no-variant (length (l .bodies))) (eqb (past-last (length (l .bodies)) set) 0) 21 0 (checked K l)) p y refl refl (λ l h z.
+    refuses-need-of (Among flip-numbers) _ (eqb (past-last (length (l .bodies)) set) 0) _ _ _ refl
     (checked-refusals flip-numbers K l refl (all-refusals K l p h z)))
 
 -- 01: "After 1 to 11 and 21 the work area is unchanged; after every other reply its first N bytes are zero and the rest unchanged."

@@ -9,7 +9,7 @@ use lib.ListN.{length}
 use lib.Dec.{eqb}
 use native.Mathlib.Omega.{arith}
 use Rattle.format.specs.declared.FileVariant.{FileVariant}
-use Rattle.format.specs.Base.{Bytes, ok}
+use Rattle.format.specs.Base.{Bytes, ok, naming}
 use Rattle.format.specs.Limits.{most-samples}
 use Rattle.format.specs.Body.{Body, body-type, body-bytes, read-body, body-categories, kind-of, type-leans, body-leans}
 use Rattle.format.specs.Variant.{file-variant, next-variant, in-block}
@@ -17,7 +17,7 @@ use Rattle.format.specs.Layout.{header-bytes, first-record, Layout, fixe
 use Rattle.format.specs.Layout.{bits-allowed, TypesAllowed, LayoutObeys}
 use Rattle.format.specs.Header.{read-layout}
 use Rattle.format.specs.File.{File, layout-of-file, file-bytes, next-anchor, BodiesFit, Obeys, read-records, file-of, read-all, read-file}
-use Rattle.format.proofs.Rules.{Holds, both, by-bind, by-map, below-after}
+use Rattle.format.proofs.Rules.{Holds, both, by-bind, by-map, below-after, by-naming}
 use Rattle.format.proofs.BodyLaws.{body-read-back, IsBody, body-as-written, kept-leaning, body-leans-typed, type-as-read}
 use Rattle.format.proofs.HeaderLaws.{layout-read-back, IsLayout, layout-as-written}
 use Rattle.format.proofs.OffsetsLaws.{from-1-to-most, types-counted}
@@ -25,16 +25,16 @@ use Rattle.format.proofs.OffsetsLaws.{from-1-to-most, types-counted}
 -- ---- the records of a file, in variant order
 
 -- bodies that fit, written out, are read back
-pub records-read-back : (N start : ℕ) (anchor : List ℕ) (bodies : List Body) → N ≤ most-samples → BodiesFit N anchor bodies
-    → read-records N start anchor (map body-type bodies) (map (body-bytes N) bodies) ≡ ok bodies []
+pub records-read-back : (N : ℕ) (v : FileVariant) (start : ℕ) (anchor : List ℕ) (bodies : List Body) → N ≤ most-samples → BodiesFit N anchor bodies
+    → read-records N v start anchor (map body-type bodies) (map (body-bytes N) bodies) ≡ ok bodies []
 unfolding read-records
-records-read-back N start anchor [] l f = refl
-records-read-back N start anchor (body ∷ bodies) l f =
+records-read-back N v start anchor [] l f = refl
+records-read-back N v start anchor (body ∷ bodies) l f =
     let end : ℕ = start + length (body-bytes N body) in
     simp (
       body-read-back end N anchor body l (f .0),
       body-leans-typed N anchor body (f .0),
-      records-read-back N end (next-anchor (body-leans body) anchor (body-categories N anchor body)) bodies l (f .1),
+      records-read-back N (next-variant v) end (next-anchor (body-leans body) anchor (body-categories N anchor body)) bodies l (f .1),
     )
 
 abbrev pub AllBytes : List (List ℕ) → Type 0
@@ -60,27 +60,27 @@ allowed-bits K v (type ∷ types) h = (
 )
 
 -- what is accepted are bodies that fit, written out
-pub records-as-written : (N start : ℕ) (anchor types : List ℕ) (stored : List (List ℕ)) → length types ≡ length stored → BitsAllowed types
-    → AllBytes stored → Holds (AreRecords N anchor types stored) (read-records N start anchor types stored)
+pub records-as-written : (N : ℕ) (v : FileVariant) (start : ℕ) (anchor types : List ℕ) (stored : List (List ℕ)) → length types ≡ length stored
+    → BitsAllowed types → AllBytes stored → Holds (AreRecords N anchor types stored) (read-records N v start anchor types stored)
 unfolding read-records
-records-as-written N start anchor [] [] n t y = record { fit = tt; types-are = refl; stored-are = refl; ended = refl }
-records-as-written N start anchor [] (bs ∷ stored) n t y = absurd (omega arith)
-records-as-written N start anchor (type ∷ types) [] n t y = absurd (omega arith)
-records-as-written N start anchor (type ∷ types) (bs ∷ stored) n t y =
+records-as-written N v start anchor [] [] n t y = record { fit = tt; types-are = refl; stored-are = refl; ended = refl }
+records-as-written N v start anchor [] (bs ∷ stored) n t y = absurd (omega arith)
+records-as-written N v start anchor (type ∷ types) [] n t y = absurd (omega arith)
+records-as-written N v start anchor (type ∷ types) (bs ∷ stored) n t y =
     let end : ℕ = start + length bs in
-    by-bind (IsBody N anchor type bs) (AreRecords N anchor (type ∷ types) (bs ∷ stored)) (read-body end N anchor type bs) _
-    (body-as-written end N anchor type bs (y .0)) (λ body left w.
+    by-bind (IsBody N anchor type bs) (AreRecords N anchor (type ∷ types) (bs ∷ stored)) (naming v (read-body end N anchor type bs)) _
+    (by-naming _ v (read-body end N anchor type bs) (body-as-written end N anchor type bs (y .0))) (λ body left w.
     let next : List ℕ = next-anchor (type-leans type) anchor (body-categories N anchor body) in
-    by-map (AreRecords N next types stored) (AreRecords N anchor (type ∷ types) (bs ∷ stored)) (read-records N end next types stored) _
-    (records-as-written N end next types stored (omega arith) (t .1) (y .1)) (λ bodies left₂ v.
+    by-map (AreRecords N next types stored) (AreRecords N anchor (type ∷ types) (bs ∷ stored)) (read-records N (next-variant v) end next types stored) _
+    (records-as-written N (next-variant v) end next types stored (omega arith) (t .1) (y .1)) (λ bodies left₂ r.
     let same : next ≡ next-anchor (body-leans body) anchor (body-categories N anchor body)
     = ap (λ (b : Bool). next-anchor b anchor (body-categories N anchor body)) (sym (kept-leaning w)) in
     let kept : type ≡ body-type body = sym (type-as-read (t .0) w) in
     record {
-      fit = (w .fits, subst (λ (x : List ℕ). BodiesFit N x bodies) same (v .fit));
-      types-are = ap₂ _∷_ kept (v .types-are);
-      stored-are = ap₂ _∷_ (w .written) (v .stored-are);
-      ended = v .ended;
+      fit = (w .fits, subst (λ (x : List ℕ). BodiesFit N x bodies) same (r .fit));
+      types-are = ap₂ _∷_ kept (r .types-are);
+      stored-are = ap₂ _∷_ (w .written) (r .stored-are);
+      ended = r .ended;
     }))
 
 -- ---- the bodies of a layout are bytes, one for each type
@@ -121,7 +121,7 @@ file-read-back K f p h =
     let l : Layout = layout-of-file f in
     simp (
       layout-read-back K l p (h .layout),
-      records-read-back (f .samples) (first-record K (fixed-of l)) [] (f .bodies) (from-1-to-most most-samples (f .samples) (h .layout .fixed .samples))
+      records-read-back (f .samples) (file-variant 0) (first-record K (fixed-of l)) [] (f .bodies) (from-1-to-most most-samples (f .samples) (h .layout .fixed .samples))
           (h .bodies),
     )
 
@@ -131,8 +131,8 @@ unfolding read-file read-all file-bytes
 file-as-written K bs p y =
     by-bind (IsLayout K bs) (IsFile K bs) (read-layout K bs) _ (layout-as-written K bs p y) (λ l left w.
     by-map (AreRecords (l .samples) [] (l .types) (l .bodies)) (IsFile K bs)
-    (read-records (l .samples) (first-record K (fixed-of l)) [] (l .types) (l .bodies)) _
-    (records-as-written (l .samples) (first-record K (fixed-of l)) [] (l .types) (l .bodies) (one-type-each K l (w .obeys))
+    (read-records (l .samples) (file-variant 0) (first-record K (fixed-of l)) [] (l .types) (l .bodies)) _
+    (records-as-written (l .samples) (file-variant 0) (first-record K (fixed-of l)) [] (l .types) (l .bodies) (one-type-each K l (w .obeys))
     (allowed-bits K (file-variant 0) (l .types) (w .obeys .types)) (bodies-are-bytes K bs l y (w .written)))
     (λ bodies left₂ v.
     let same : l ≡ layout-of-file (file-of l bodies) = same-layout l bodies (v .types-are) (v .stored-are) in

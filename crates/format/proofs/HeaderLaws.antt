@@ -9,20 +9,27 @@ use lib.ListN.{length, length-append, length-map}
 use lib.Dec.{leb, lit<}
 use native.Mathlib.Omega.{arith}
 use borrow.Author.Tests.{le-leb}
-use Rattle.format.specs.Base.{Bytes, ok, numbered}
+use Rattle.format.specs.Base.{Bytes, ok, numbered, naming}
 use Rattle.format.specs.Limits.{most-samples, most-variants}
 use Rattle.format.specs.Variant.{file-variant}
 use Rattle.format.specs.Layout.{Fixed, fixed-bytes, Arrays, arrays-bytes, arrays-size, Layout, fixed-of, body-lengths, block-offsets, arrays-of, joined}
 use Rattle.format.specs.Layout.{in-parts, layout-bytes, FixedObeys, OffsetsFit, ColumnsObey, TypesAllowed, LayoutObeys}
 use Rattle.format.specs.Header.{Header, header-with, header-of, read-fixed, read-arrays, need-types, read-after-fixed, read-header}
 use Rattle.format.specs.Header.{split-bodies, layout-of, read-bodies, read-data, read-layout}
-use Rattle.format.proofs.Rules.{Holds, by-need, by-bind, by-map, by-numbered, weaken, below-after}
+use Rattle.format.proofs.Rules.{Holds, by-need, by-bind, by-map, by-numbered, weaken, below-after, by-need-of, by-naming}
 use Rattle.format.proofs.ArraysLaws.{fixed-read-back, AreFixed, fixed-as-written, by-fixed, fixed-pass, AreArrays, arrays-as-written, same-arrays}
 use Rattle.format.proofs.ArraysLaws.{arrays-length, arrays-read-back, header-apart}
 use Rattle.format.proofs.OffsetsLaws.{by-types, types-pass, by-offsets, offsets-pass, bodies-read-back, AreBodies, bodies-as-written, starts-count}
 use Rattle.format.proofs.OffsetsLaws.{lengths-counted, from-1-to-most, mode-byte, offsets-fit}
 
 -- ---- read back
+
+-- fields that obey are read back, whatever stands after them
+pub obeying-read-back : (end : ℕ) (f : Fixed) (left : List ℕ) → FixedObeys f → read-fixed end (fixed-bytes f ++ left) ≡ ok f left
+obeying-read-back end f left h =
+    fixed-read-back end f left (rw (h .magic) (lit< tt)) (mode-byte (f .mode) (h .mode))
+    (omega (arith, from-1-to-most most-variants (f .variants) (h .variants))) (omega (arith, from-1-to-most most-samples (f .samples) (h .samples)))
+    (h .form-byte)
 
 -- the header of a layout that obeys is read back, whatever stands after it
 pub header-read-back : (K : ℕ) (l : Layout) (after : List ℕ) → zero < K → LayoutObeys K l
@@ -33,10 +40,7 @@ header-read-back K l after p h =
     let a : Arrays = arrays-of K l in
     let left : List ℕ = arrays-bytes K f a ++ after in
     let end : ℕ = length (fixed-bytes f ++ left) in
-    let fixed-back : read-fixed end (fixed-bytes f ++ left) ≡ ok f left
-    = fixed-read-back end f left (lit< tt) (mode-byte (l .mode) (h .fixed .mode))
-    (omega (arith, from-1-to-most most-variants (length (l .bodies)) (h .fixed .variants)))
-    (omega (arith, from-1-to-most most-samples (l .samples) (h .fixed .samples))) (h .fixed .form-byte) in
+    let fixed-back : read-fixed end (fixed-bytes f ++ left) ≡ ok f left = obeying-read-back end f left (h .fixed) in
     let arrays-back : read-arrays K end f left ≡ ok a after = arrays-read-back K end f a after p (offsets-fit K l p h) (h .columns) in
     let room : leb (arrays-size K f) (length left) ≡ true
     = le-leb (arrays-size K f) (length left)
@@ -49,7 +53,7 @@ header-read-back K l after p h =
 -- its offsets pass, and its bodies are read back
 pub data-read-back : (K end : ℕ) (l : Layout) → read-data K end (header-of K l) (joined (l .bodies)) ≡ ok l []
 unfolding read-data read-bodies
-data-read-back K end l = offsets-pass 12 _ _ ∙ simp (bodies-read-back end (l .bodies))
+data-read-back K end l = offsets-pass _ 12 _ _ ∙ simp (bodies-read-back end (l .bodies))
 
 -- the bytes of a layout that obeys are read back as that layout
 pub layout-read-back : (K : ℕ) (l : Layout) → zero < K → LayoutObeys K l → read-layout K (layout-bytes K l) ≡ ok l []
@@ -75,10 +79,11 @@ header-as-written K bs p y =
     by-bind (AreFixed bs) (IsHeader K bs) (numbered 1 (read-fixed (length bs) bs)) _
     (by-numbered _ 1 (read-fixed (length bs) bs) (fixed-as-written (length bs) bs y)) (λ f left₁ h₁.
     by-fixed (IsHeader K bs) f _ (h₁ .form-byte) (λ u.
-    by-need (IsHeader K bs) (leb (arrays-size K f) (length left₁)) _ _ _ (λ t.
+    by-need-of (IsHeader K bs) _ (leb (arrays-size K f) (length left₁)) _ _ _ (λ t.
     let y₁ : Bytes left₁ = below-after 256 (fixed-bytes f) left₁ (rw (h₁ .written) at y) in
-    by-bind (AreArrays K f left₁) (IsHeader K bs) (numbered 7 (read-arrays K (length bs) f left₁)) _
-    (by-numbered _ 7 (read-arrays K (length bs) f left₁) (arrays-as-written K (length bs) f left₁ p y₁)) (λ a left h.
+    by-bind (AreArrays K f left₁) (IsHeader K bs) (naming _ (numbered 7 (read-arrays K (length bs) f left₁))) _
+    (by-naming _ _ (numbered 7 (read-arrays K (length bs) f left₁))
+    (by-numbered _ 7 (read-arrays K (length bs) f left₁) (arrays-as-written K (length bs) f left₁ p y₁))) (λ a left h.
     by-types (IsHeader K bs) K f (file-variant 0) (a .columns .types) (ok (header-with f a) left) (λ g.
     record {
       obeys = record { fixed = u; offsets = h .offsets; columns = h .columns; types = g };
@@ -103,9 +108,10 @@ data-as-written K end h bs o =
     let f : Fixed = h .fixed in
     let a : Arrays = h .arrays in
     let lengths : List ℕ = a .columns .lengths in
-    by-offsets (IsData K h bs) 12 (a .offsets) (block-offsets K f lengths) _ (o .offsets .0 ∙ sym (starts-count K _ f lengths)) (λ q.
-    by-map (AreBodies lengths bs) (IsData K h bs) (numbered 9 (split-bodies end lengths bs)) _
-    (by-numbered _ 9 (split-bodies end lengths bs) (bodies-as-written end lengths bs)) (λ bodies left b.
+    by-offsets (IsData K h bs) f 12 (a .offsets) (block-offsets K f lengths) _ (o .offsets .0 ∙ sym (starts-count K _ f lengths)) (λ q.
+    by-map (AreBodies lengths bs) (IsData K h bs) (naming _ (numbered 9 (split-bodies end lengths bs))) _
+    (by-naming _ _ (numbered 9 (split-bodies end lengths bs))
+    (by-numbered _ 9 (split-bodies end lengths bs) (bodies-as-written end lengths bs))) (λ bodies left b.
     let l : Layout = layout-of f (a .columns) bodies in
     let n : length bodies ≡ f .variants = sym (length-map bodies length) ∙ ap length (b .lengths-same) ∙ lengths-counted f (a .columns) (o .columns) in
     let e : fixed-of l ≡ f = same-fixed f 0x1b6c (length bodies) (o .fixed .magic) (sym n) in

@@ -10,7 +10,7 @@ use lib.Dec.{eqb, leb, lit<, lit≤}
 use native.Mathlib.Omega.{arith}
 use borrow.Author.Tests.{leb-true, eqb-true, eq-eqb}
 use Rattle.format.specs.declared.FileVariant.{FileVariant}
-use Rattle.format.specs.Base.{pick, Below, Out, ok, bind, need}
+use Rattle.format.specs.Base.{pick, Below, Out, ok, bind, need, need-of}
 use Rattle.format.specs.Limits.{most-variants}
 use Rattle.format.specs.Numbers.{read-bytes}
 use Rattle.format.specs.Packed.{Bits, one, two, four, eight, more, packed-size}
@@ -19,7 +19,7 @@ use Rattle.format.specs.Layout.{Fixed, from-1-to, unblocked, mode-covere
 use Rattle.format.specs.Layout.{block-size, blocked-size, arrays-size, first-record, Layout, fixed-of, body-lengths, columns-of, block-starts, arrays-of}
 use Rattle.format.specs.Layout.{joined, fixed-type, fixed-size, ColumnsUnblocked, ColumnsObey, type-allowed, TypesAllowed, LayoutObeys}
 use Rattle.format.specs.Header.{type-place, need-types, need-offsets, split-bodies}
-use Rattle.format.proofs.Rules.{Holds, by-test, need-then, by-need, by-bind, by-map, both}
+use Rattle.format.proofs.Rules.{Holds, by-test, need-of-then, by-need-of, by-bind, by-map, both}
 use Rattle.format.proofs.NumbersLaws.{bytes-read-back, AreBytes, bytes-as-written}
 use Rattle.format.proofs.BlocksLaws.{cut-length, block-count-is, sizes-sum}
 use Rattle.format.proofs.ArraysLaws.{OffsetsFit, AllFit}
@@ -32,7 +32,7 @@ pub by-types : {A : Type 0} (Q : A → List ℕ → Type 0) (K : ℕ) (f : Fixed
 unfolding need-types
 by-types Q K f v [] next h = h tt
 by-types Q K f v (type ∷ types) next h =
-    by-need Q (type-allowed (in-block K v) type) _ _ _ (λ e. by-types Q K f (next-variant v) types next (λ g. h (e, g)))
+    by-need-of Q v (type-allowed (in-block K v) type) _ _ _ (λ e. by-types Q K f (next-variant v) types next (λ g. h (e, g)))
 
 -- allowed types pass
 pub types-pass : {A : Type 0} (K : ℕ) (f : Fixed) (v : FileVariant) (types : List ℕ) (next : Out A) → TypesAllowed K v types
@@ -47,26 +47,26 @@ pub types-then : {A B : Type 0} (K : ℕ) (f : Fixed) (v : FileVariant) (types :
 unfolding need-types
 types-then K f v [] m next = refl
 types-then K f v (type ∷ types) m next =
-    need-then (type-allowed (in-block K v) type) 8 (type-place K f v) (need-types K f (next-variant v) types m) next
-    ∙ ap (need (type-allowed (in-block K v) type) 8 (type-place K f v)) (types-then K f (next-variant v) types m next)
+    need-of-then v (type-allowed (in-block K v) type) 8 (type-place K f v) (need-types K f (next-variant v) types m) next
+    ∙ ap (need-of v (type-allowed (in-block K v) type) 8 (type-place K f v)) (types-then K f (next-variant v) types m next)
 
 -- ---- rule 9, the offset fields
 
 -- what comes after the offsets may take them as the starts
-pub by-offsets : {A : Type 0} (Q : A → List ℕ → Type 0) (place : ℕ) (offsets starts : List ℕ) (next : Out A) → length offsets ≡ length starts
-    → (offsets ≡ starts → Holds Q next) → Holds Q (need-offsets place offsets starts next)
+pub by-offsets : {A : Type 0} (Q : A → List ℕ → Type 0) (f : Fixed) (place : ℕ) (offsets starts : List ℕ) (next : Out A) → length offsets ≡ length starts
+    → (offsets ≡ starts → Holds Q next) → Holds Q (need-offsets f place offsets starts next)
 unfolding need-offsets
-by-offsets Q place [] [] next l h = h refl
-by-offsets Q place [] (start ∷ starts) next l h = absurd (omega arith)
-by-offsets Q place (offset ∷ offsets) [] next l h = absurd (omega arith)
-by-offsets Q place (offset ∷ offsets) (start ∷ starts) next l h =
-    by-need Q (eqb offset start) _ _ _ (λ t. by-offsets Q (place + 8) offsets starts next (omega arith) (λ g. h (cc (eqb-true offset start t))))
+by-offsets Q f place [] [] next l h = h refl
+by-offsets Q f place [] (start ∷ starts) next l h = absurd (omega arith)
+by-offsets Q f place (offset ∷ offsets) [] next l h = absurd (omega arith)
+by-offsets Q f place (offset ∷ offsets) (start ∷ starts) next l h =
+    by-need-of Q _ (eqb offset start) _ _ _ (λ t. by-offsets Q f (place + 8) offsets starts next (omega arith) (λ g. h (cc (eqb-true offset start t))))
 
 -- right offsets pass
-pub offsets-pass : {A : Type 0} (place : ℕ) (offsets : List ℕ) (next : Out A) → need-offsets place offsets offsets next ≡ next
+pub offsets-pass : {A : Type 0} (f : Fixed) (place : ℕ) (offsets : List ℕ) (next : Out A) → need-offsets f place offsets offsets next ≡ next
 unfolding need-offsets
-offsets-pass place [] next = refl
-offsets-pass place (offset ∷ offsets) next = simp (eq-eqb offset offset refl) (offsets-pass (place + 8) offsets next)
+offsets-pass f place [] next = refl
+offsets-pass f place (offset ∷ offsets) next = simp (eq-eqb offset offset refl) (offsets-pass f (place + 8) offsets next)
 
 -- ---- rule 9, the bodies
 

@@ -7,7 +7,7 @@ use mathlib.Core.List.{List, [], _∷_, map}
 use lib.ListN.{length, getD, length-map, List·getD-map}
 use native.Mathlib.Omega.{arith}
 use Rattle.format.specs.declared.FileVariant.{FileVariant}
-use Rattle.format.specs.Base.{pick, Bytes, Out, ok, refused, bind, map-out}
+use Rattle.format.specs.Base.{pick, Bytes, Out, ok, refused, bind, map-out, naming}
 use Rattle.format.specs.Limits.{most-samples}
 use Rattle.format.specs.Track.{plain}
 use Rattle.format.specs.Phase.{no-phases}
@@ -127,8 +127,8 @@ module _ (K : ℕ) (f : File) (p : zero < K) (h : Obeys K f) where
         let N : ℕ = f .samples in
         let body : Body = getD (f .bodies) (v .0) no-body in
         let end : ℕ = record-start K (layout-of-file f) (next-variant v) in
-        ap₂ (λ (t : ℕ) (bs : List ℕ). map-out (what N lent) (read-body end N lent t bs)) (type-at v l) (bytes-at (v .0) (f .bodies) l)
-        ∙ ap (map-out (what N lent)) (body-read-back end N lent body (from-1-to-most most-samples N (h .layout .fixed .samples)) g)
+        ap₂ (λ (t : ℕ) (bs : List ℕ). map-out (what N lent) (naming v (read-body end N lent t bs))) (type-at v l) (bytes-at (v .0) (f .bodies) l)
+        ∙ ap (λ (m : Out Body). map-out (what N lent) (naming v m)) (body-read-back end N lent body (from-1-to-most most-samples N (h .layout .fixed .samples)) g)
 
     -- one that does not lean is read over nothing
     stands-reads : (v : FileVariant) → v .0 < length (f .bodies) → body-leans (getD (f .bodies) (v .0) no-body) ≡ false
@@ -195,7 +195,8 @@ pub over-map : {A B : Type 0} (what : ℕ → List ℕ → Body → A) (g : A �
     → over-as (λ (N : ℕ) (anchor : List ℕ) (body : Body). g (what N anchor body)) K l anchor v ≡ map-out g (over-as what K l anchor v)
 unfolding over-as
 over-map what g K l anchor v =
-    map-twice (what (l .samples) anchor) g (read-body (record-start K l (next-variant v)) (l .samples) anchor (type-of l v) (getD (l .bodies) (v .0) []))
+    map-twice (what (l .samples) anchor) g
+    (naming v (read-body (record-start K l (next-variant v)) (l .samples) anchor (type-of l v) (getD (l .bodies) (v .0) [])))
   where
     map-twice : {A B C : Type 0} (f : A → B) (g : B → C) (m : Out A) → map-out (λ (a : A). g (f a)) m ≡ map-out g (map-out f m)
     map-twice f g (ok a left) = refl

@@ -6,7 +6,9 @@ use mathlib.Core.Bool.{Bool, true, false, not, _&&_}
 use mathlib.Core.List.{List, [], _∷_}
 use lib.Dec.{eqb}
 use borrow.Author.Tests.{eqb-true}
-use Rattle.format.specs.Base.{Out, ok, bind, map-out, need, numbered, refused}
+use Rattle.format.specs.declared.FileVariant.{FileVariant}
+use Rattle.format.specs.Base.{Out, ok, naming, bind, map-out, need, need-of, numbered, refused}
+use Rattle.format.specs.Variant.{file-variant}
 use Rattle.format.specs.Classes.{header-numbers, record-numbers, among}
 use Rattle.format.proofs.Rules.{Holds, never-both, both, either}
 
@@ -52,10 +54,19 @@ not-none class t h = never-both {X = ⊥} (class-holds (λ (n : ℕ). not (eqb n
 pub refuses-wider : {A : Type 0} (class wider : List ℕ) (m : Out A) → every (among wider) class ≡ true → Refuses (Among class) m → Refuses (Among wider) m
 refuses-wider class wider m t r = refuses-weaken (Among class) (Among wider) m (λ number h. class-holds (among wider) class number t h) r
 
--- a test, then what comes next
+-- a test, then what comes next, whichever variant the refusal names
+pub refuses-need-of : {A : Type 0} (P : ℕ → Type 0) (v : FileVariant) (t : Bool) (number place : ℕ) (next : Out A) → P number → Refuses P next
+    → Refuses P (need-of v t number place next)
+refuses-need-of P v true number place next h r = r
+refuses-need-of P v false number place next h r = h
+
 pub refuses-need : {A : Type 0} (P : ℕ → Type 0) (t : Bool) (number place : ℕ) (next : Out A) → P number → Refuses P next → Refuses P (need t number place next)
-refuses-need P true number place next h r = r
-refuses-need P false number place next h r = h
+refuses-need P t number place next h r = refuses-need-of P (file-variant 0) t number place next h r
+
+-- the variant that it names is not its number
+pub refuses-naming : {A : Type 0} (P : ℕ → Type 0) (v : FileVariant) (m : Out A) → Refuses P m → Refuses P (naming v m)
+refuses-naming P v (ok a left) r = r
+refuses-naming P v (refused why) r = r
 
 -- what was read, made into something else
 pub refuses-map : {A B : Type 0} (P : ℕ → Type 0) (f : A → B) (m : Out A) → Refuses P m → Refuses P (map-out f m)

@@ -8,7 +8,9 @@ use lib.ListN.{take, drop}
 use native.Mathlib.Omega.{arith}
 use native.Mathlib.Decide.{decLe}
 use native.Mathlib.Nat.{lt-of-not-le}
-use Rattle.format.specs.Base.{pick, Out, ok, bind, map-out, need, numbered, Below, refused}
+use Rattle.format.specs.declared.FileVariant.{FileVariant}
+use Rattle.format.specs.Base.{pick, Out, ok, naming, bind, map-out, need, need-of, numbered, Below, refused}
+use Rattle.format.specs.Variant.{file-variant}
 
 -- P holds of what was read, if anything was
 abbrev pub Holds : {A : Type 0} → (A → List ℕ → Type 0) → Out A → Type 0
@@ -20,16 +22,25 @@ pub by-test {ℓ κ} : {X : Type ℓ} (P : X → Type κ) (t : Bool) {x y : X} �
 by-test P true f g = f refl
 by-test P false f g = g refl
 
+-- whichever variant the refusal names; 0 where none is named
+pub by-need-of : {A : Type 0} (Q : A → List ℕ → Type 0) (v : FileVariant) (t : Bool) (number place : ℕ) (next : Out A) → (t ≡ true → Holds Q next)
+    → Holds Q (need-of v t number place next)
+by-need-of Q v true number place next f = f refl
+by-need-of Q v false number place next f = tt
+
 pub by-need : {A : Type 0} (Q : A → List ℕ → Type 0) (t : Bool) (number place : ℕ) (next : Out A) → (t ≡ true → Holds Q next)
     → Holds Q (need t number place next)
-by-need Q true number place next f = f refl
-by-need Q false number place next f = tt
+by-need Q t number place next f = by-need-of Q (file-variant 0) t number place next f
 
 -- what follows a rule may be said within it
+pub need-of-then : {A B : Type 0} (v : FileVariant) (t : Bool) (number place : ℕ) (m : Out A) (next : A → List ℕ → Out B)
+    → bind (need-of v t number place m) next ≡ need-of v t number place (bind m next)
+need-of-then v true number place m next = refl
+need-of-then v false number place m next = refl
+
 pub need-then : {A B : Type 0} (t : Bool) (number place : ℕ) (m : Out A) (next : A → List ℕ → Out B)
     → bind (need t number place m) next ≡ need t number place (bind m next)
-need-then true number place m next = refl
-need-then false number place m next = refl
+need-then t number place m next = need-of-then (file-variant 0) t number place m next
 
 pub by-bind : {A B : Type 0} (P : A → List ℕ → Type 0) (Q : B → List ℕ → Type 0) (m : Out A) (f : A → List ℕ → Out B)
     → Holds P m → ((a : A) (left : List ℕ) → P a left → Holds Q (f a left)) → Holds Q (bind m f)
@@ -44,6 +55,10 @@ by-map P Q (refused why) f h k = tt
 pub by-numbered : {A : Type 0} (P : A → List ℕ → Type 0) (number : ℕ) (m : Out A) → Holds P m → Holds P (numbered number m)
 by-numbered P number (ok a left) h = h
 by-numbered P number (refused why) h = tt
+
+pub by-naming : {A : Type 0} (P : A → List ℕ → Type 0) (v : FileVariant) (m : Out A) → Holds P m → Holds P (naming v m)
+by-naming P v (ok a left) h = h
+by-naming P v (refused why) h = tt
 
 pub weaken : {A : Type 0} (P Q : A → List ℕ → Type 0) (m : Out A) → ((a : A) (left : List ℕ) → P a left → Q a left) → Holds P m → Holds Q m
 weaken P Q (ok a left) k h = k a left h

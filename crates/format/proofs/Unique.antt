@@ -97,13 +97,14 @@ pub same-lookup : (r s : LookupReply) (work work₁ : List ℕ) → lookup-left 
 same-lookup r s work work₁ e =
     (same-answer lookup-ways 0 r s (ap (λ (z : Lookup). z .verdict) e) (ap (λ (z : Lookup). z .category) e), ap (λ (z : Lookup). z .work) e)
 
--- the view, whose refusal stands in two lent numbers: the same bytes, in the same place
-pub same-view : (number number₁ place place₁ : ℕ) (part part₁ : List ℕ) (lies lies₁ : ℕ × ℕ)
-    → view-left number place part lies ≡ view-left number₁ place₁ part₁ lies₁
-    → (number ≡ number₁) × (place ≡ place₁) × (part ≡ part₁) × (lies ≡ lies₁)
-same-view number number₁ place place₁ part part₁ lies lies₁ e = (
+-- the view, whose refusal stands in three lent numbers: the same bytes, in the same place
+pub same-view : (number number₁ place place₁ variant variant₁ : ℕ) (part part₁ : List ℕ) (lies lies₁ : ℕ × ℕ)
+    → view-left number place variant part lies ≡ view-left number₁ place₁ variant₁ part₁ lies₁
+    → (number ≡ number₁) × (place ≡ place₁) × (variant ≡ variant₁) × (part ≡ part₁) × (lies ≡ lies₁)
+same-view number number₁ place place₁ variant variant₁ part part₁ lies lies₁ e = (
   ap (λ (z : Viewed). z .refusal .number) e,
   ap (λ (z : Viewed). z .refusal .place) e,
+  ap (λ (z : Viewed). z .refusal .variant .0) e,
   ap (λ (z : Viewed). z .part) e,
   ap (λ (z : Viewed). z .lies) e,
 )

@@ -9,9 +9,10 @@ use lib.Dec.{eqb}
 abbrev pub header-numbers : List ℕ
 header-numbers = 1 ∷ 2 ∷ 3 ∷ 4 ∷ 5 ∷ 6 ∷ 7 ∷ 8 ∷ 9 ∷ []
 
--- what a record is refused for, from "record ends too soon" to "unused record bits set"
+-- what a record is refused for, from "record ends too soon" to "unused record bits set"; 02, Ask 2: "16 stays for the count, 23 is a number not rising, 24 a
+-- number not below N, 25 a size byte"
 abbrev pub record-numbers : List ℕ
-record-numbers = 12 ∷ 13 ∷ 14 ∷ 15 ∷ 16 ∷ 17 ∷ 18 ∷ []
+record-numbers = 12 ∷ 13 ∷ 14 ∷ 15 ∷ 16 ∷ 17 ∷ 18 ∷ 23 ∷ 24 ∷ 25 ∷ []
 
 -- what a call adds: "Only 10 and 11 depend on the call's other arguments. For flips 21 comes next."
 abbrev pub call-numbers : List ℕ

@@ -87,15 +87,17 @@ pub record Parts : Type 0 where
   pub sizes-end : ℕ
   pub count : ℕ
 
--- 01, Replies: "entry by entry its varint (12, 15), its number (16), its value (17)". The number stands at q; `left` values follow the entry's.
+-- 01, Replies: "entry by entry its varint (12, 15), its number (16), its value (17)". 02, Ask 2: "23 is a number not rising, 24 a number not below N".
+-- The number stands at q; `left` values follow the entry's.
 unfoldable pub read-entry : Rule → Parts → ℕ → ℕ → ℕ → ℕ → List ℕ → Out (List Entry) → Out (List Entry)
 read-entry rule parts least q sample value left next =
-    need (leb least sample) 16 q
-    (need (ltb sample (rule .samples)) 16 q
+    need (leb least sample) 23 q
+    (need (ltb sample (rule .samples)) 24 q
     (need (rule .may sample value) 17 (parts .sizes-end + (parts .count - suc (length left)) / 4)
     (map-out (_∷_ (record { sample = sample; value = value })) next)))
 
--- 01, Replies: "and after each group but the last its size byte (16)". A step's bytes are those that were read: from bs to what is left.
+-- 01, Replies: "and after each group but the last its size byte (16)". 02, Ask 2: "25 a size byte". A step's bytes are those that were read: from bs to
+-- what is left.
 -- The clauses with `refuse 0 0` are where heads, sizes and values do not belong together: law `list-refusals` shows that none is reached.
 unfoldable pub read-entries : Rule → Parts → ℕ → ℕ → ℕ → List ℕ → List ℕ → List ℕ → List ℕ → Out (List Entry)
 read-entries rule parts room size before [] [] [] bs = ok [] bs
@@ -104,7 +106,7 @@ read-entries rule parts room size before (h ∷ hs) zs [] bs = refuse 0 0
 read-entries rule parts zero size before [] zs (v ∷ vs) bs = refuse 0 0
 read-entries rule parts zero size before (h ∷ hs) [] (v ∷ vs) bs = refuse 0 0
 read-entries rule parts zero size before (h ∷ hs) (z ∷ zs) (v ∷ vs) bs =
-    need (eqb size (z + 63)) 16 (parts .sizes-end - suc (length zs))
+    need (eqb size (z + 63)) 25 (parts .sizes-end - suc (length zs))
     (read-entry rule parts (suc before) (parts .heads-end - parts .width * suc (length hs)) h v vs (read-entries rule parts 63 0 h hs zs vs bs))
 read-entries rule parts (suc room) size before hs zs (v ∷ vs) bs =
     bind (read-varint (parts .end) bs) (λ step left.
@@ -127,6 +129,6 @@ read-parts rule w end L bs =
     bind (read-packed end two L left₂) (λ vs left₃.
     read-first rule (record { end = end; width = w; heads-end = place-of end left₁; sizes-end = place-of end left₂; count = L }) hs zs vs left₃)))
 
--- 01, Replies: "In a list: count (12, 15, 16)"
+-- 01, Replies: "In a list: count (12, 15, 16)". 02, Ask 2: "16 stays for the count".
 unfoldable pub read-list : Rule → ℕ → ℕ → List ℕ → Out (List Entry)
 read-list rule w end bs = bind (read-varint end bs) (λ L left. need (leb L (rule .samples)) 16 (place-of end bs) (read-parts rule w end L left))

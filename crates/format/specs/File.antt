@@ -5,7 +5,7 @@ use mathlib.Core.Bool.{Bool, false}
 use mathlib.Core.List.{List, [], _∷_, map}
 use lib.ListN.{length, getD}
 use Rattle.format.specs.declared.FileVariant.{FileVariant}
-use Rattle.format.specs.Base.{pick, Bytes, Out, ok, bind, map-out}
+use Rattle.format.specs.Base.{pick, Bytes, Out, ok, naming, bind, map-out}
 use Rattle.format.specs.Container.{Container, flip-stored}
 use Rattle.format.specs.Body.{type-leans, Body, body-type, body-leans, body-bytes, BodyFits, read-body, body-categories, flip-body}
 use Rattle.format.specs.Body.{body-phases, Reading, body-reading, exchange-reading}
@@ -63,19 +63,21 @@ pub record Obeys (K : ℕ) (f : File) : Type 0 where
 
 -- ---- the whole-file check
 
--- 01, Replies: "the whole-file check, which goes in variant order". The first record starts at `start`.
-unfoldable pub read-records : ℕ → ℕ → List ℕ → List ℕ → List (List ℕ) → Out (List Body)
-read-records N start anchor [] bodies = ok [] []
-read-records N start anchor (type ∷ types) [] = ok [] []
-read-records N start anchor (type ∷ types) (bs ∷ bodies) =
-    bind (read-body (start + length bs) N anchor type bs) (λ body left.
-    map-out (_∷_ body) (read-records N (start + length bs) (next-anchor (type-leans type) anchor (body-categories N anchor body)) types bodies))
+-- 01, Replies: "the whole-file check, which goes in variant order". The first record is that of variant v and starts at `start`.
+-- 02, Ask 2: a record's refusal names "the variant in whose record or type the fault lies".
+unfoldable pub read-records : ℕ → FileVariant → ℕ → List ℕ → List ℕ → List (List ℕ) → Out (List Body)
+read-records N v start anchor [] bodies = ok [] []
+read-records N v start anchor (type ∷ types) [] = ok [] []
+read-records N v start anchor (type ∷ types) (bs ∷ bodies) =
+    bind (naming v (read-body (start + length bs) N anchor type bs)) (λ body left.
+    map-out (_∷_ body)
+    (read-records N (next-variant v) (start + length bs) (next-anchor (type-leans type) anchor (body-categories N anchor body)) types bodies))
 
 abbrev pub file-of : Layout → List Body → File
 file-of l bodies = record { mode = l .mode; samples = l .samples; form = l .form; flags = l .flags; bodies = bodies }
 
 unfoldable pub read-all : ℕ → Layout → Out (List Body)
-read-all K l = read-records (l .samples) (first-record K (fixed-of l)) [] (l .types) (l .bodies)
+read-all K l = read-records (l .samples) (file-variant 0) (first-record K (fixed-of l)) [] (l .types) (l .bodies)
 
 unfoldable pub read-file : ℕ → List ℕ → Out File
 read-file K bs = bind (read-layout K bs) (λ l left. map-out (file-of l) (read-all K l))
@@ -88,10 +90,11 @@ type-of l v = getD (l .types) (v .0) 0
 abbrev pub variant-leans : Layout → FileVariant → Bool
 variant-leans l v = type-leans (type-of l v)
 
--- `what` of a variant's body, over its anchor's categories
+-- `what` of a variant's body, over its anchor's categories; a refusal names the variant
 unfoldable pub over-as : {A : Type 0} → (ℕ → List ℕ → Body → A) → ℕ → Layout → List ℕ → FileVariant → Out A
 over-as what K l anchor v =
-    map-out (what (l .samples) anchor) (read-body (record-start K l (next-variant v)) (l .samples) anchor (type-of l v) (getD (l .bodies) (v .0) []))
+    map-out (what (l .samples) anchor)
+    (naming v (read-body (record-start K l (next-variant v)) (l .samples) anchor (type-of l v) (getD (l .bodies) (v .0) [])))
 
 abbrev pub read-over : ℕ → Layout → List ℕ → FileVariant → Out (List ℕ)
 read-over K l anchor v = over-as body-categories K l anchor v

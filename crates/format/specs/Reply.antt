@@ -16,8 +16,9 @@ use Rattle.format.specs.declared.LookupReply.{LookupReply}
 use Rattle.format.specs.declared.LookupReply.the-variants as lookup
 use Rattle.format.specs.declared.WriteReply.{WriteReply}
 use Rattle.format.specs.declared.WriteReply.the-variants as write
-use Rattle.format.specs.Base.{pick, Out, ok, refused, refusal, bind, map-out, need}
+use Rattle.format.specs.Base.{pick, Out, ok, refused, refusal, named, bind, map-out, need-of}
 use Rattle.format.specs.Classes.{header-numbers, call-numbers, among}
+use Rattle.format.specs.Variant.{file-variant, no-variant}
 use Rattle.format.specs.Layout.{fields-of, Layout, fixed-of, record-start}
 use Rattle.format.specs.Header.{read-layout}
 use Rattle.format.specs.Body.{Body, body-categories, body-phases}
@@ -30,7 +31,7 @@ abbrev pub is-accepted : {A : Type 0} → Out A → Bool
 is-accepted (ok a left) = true
 is-accepted (refused why) = false
 
--- 01, Replies: "An accepted call has refusal 0 and place 0."
+-- 01, Replies: "An accepted call has refusal 0 and place 0." 02, Ask 2: the variant is "0 in 1 to 4, from a writer and when accepted".
 abbrev pub refusal-of : {A : Type 0} → Out A → Refusal
 refusal-of (ok a left) = refusal 0 0
 refusal-of (refused why) = why
@@ -50,6 +51,11 @@ given f other (refused why) = other
 
 abbrev pub given-or : {A : Type 0} → A → Out A → A
 given-or other out = given (λ a. a) other out
+
+-- a reply's refusal, with the variant that it names
+abbrev pub named-reply : FileVariant → Reply → Reply
+named-reply v done.Accepted = done.Accepted
+named-reply v (done.Refused why) = done.Refused (named v why)
 
 -- 01, Forms for each place: "Where an answer is an enum, a definition gives this paper's number and values for each of its cases". The `-left` of each
 -- call has the numbers and values of its answer, and the lent buffers as the call leaves them.
@@ -90,9 +96,9 @@ holds-row buffer l = leb (l .samples) (length buffer)
 abbrev pub holds-set : List ℕ → Layout → Bool
 holds-set set l = eqb (length set) ((length (l .bodies) + 7) / 8)
 
--- the header check; 10, "a lent buffer of wrong size"; then what comes next
+-- the header check; 10, "a lent buffer of wrong size"; then what comes next. 02, Ask 2: "M where no variant is concerned"
 abbrev pub with-layout : {A : Type 0} → ℕ → List ℕ → (Layout → Bool) → (Layout → Out A) → Out A
-with-layout K file sized next = bind (read-layout K file) (λ l left. need (sized l) 10 0 (next l))
+with-layout K file sized next = bind (read-layout K file) (λ l left. need-of (no-variant (length (l .bodies))) (sized l) 10 0 (next l))
 
 -- ---- header check and whole-file check
 
@@ -137,7 +143,7 @@ check-call K file work = record {
 
 -- 01: 11, "variant not below M, or sample not below N"
 abbrev pub need-variant : {A : Type 0} → FileVariant → Layout → Out A → Out A
-need-variant v l next = need (ltb (v .0) (length (l .bodies))) 11 0 next
+need-variant v l next = need-of (no-variant (length (l .bodies))) (ltb (v .0) (length (l .bodies))) 11 0 next
 
 pub record Read : Type 0 where
   pub verdict : Verdict
@@ -178,9 +184,13 @@ pub record Lookup : Type 0 where
 abbrev pub lookup-left : LookupReply → List ℕ → Lookup
 lookup-left reply work = record { verdict = verdict (lookup-answer reply); category = given-or 0 (lookup-answer reply); work = work }
 
+-- 02, Ask 2: the variant is named "by 11 for a sample of a variant below M"
+abbrev pub need-sample : {A : Type 0} → FileVariant → ℕ → Layout → Out A → Out A
+need-sample v sample l next = need-of v (ltb sample (l .samples)) 11 0 next
+
 abbrev pub lookup-out : ℕ → List ℕ → FileVariant → ℕ → List ℕ → Out (List ℕ)
 lookup-out K file v sample work =
-    with-layout K file (holds-row work) (λ (l : Layout). need-variant v l (need (ltb sample (l .samples)) 11 0 (read-variant K l v)))
+    with-layout K file (holds-row work) (λ (l : Layout). need-variant v l (need-sample v sample l (read-variant K l v)))
 
 -- 01: "a lookup gives the category (0 on a refusal)"
 unfoldable pub lookup-call : ℕ → List ℕ → FileVariant → ℕ → List ℕ → Lookup
@@ -210,15 +220,15 @@ view-call K file v = record {
   start = given (λ (l : Layout). record-start K l v) 0 (view-out K file v);
 }
 
--- what a view leaves: the refusal's number and place in two lent numbers, the part's bytes, and where they lie in memory: a block of it, and how many bytes
--- into it
+-- what a view leaves: the refusal's number, place and variant in three lent numbers, the part's bytes, and where they lie in memory: a block of it, and how
+-- many bytes into it
 pub record Viewed : Type 0 where
   pub refusal : Refusal
   pub part : List ℕ
   pub lies : ℕ × ℕ
 
-abbrev pub view-left : ℕ → ℕ → List ℕ → ℕ × ℕ → Viewed
-view-left number place part lies = record { refusal = refusal number place; part = part; lies = lies }
+abbrev pub view-left : ℕ → ℕ → ℕ → List ℕ → ℕ × ℕ → Viewed
+view-left number place variant part lies = record { refusal = named (file-variant variant) (refusal number place); part = part; lies = lies }
 
 -- 01: "as a part of the caller's file", which itself lies at `lies`
 abbrev pub part-of-file : ℕ × ℕ → View → Viewed
@@ -270,7 +280,7 @@ flip-left reply file work = record { verdict = verdict (plain-answer reply); fil
 abbrev pub flip-out : ℕ → List ℕ → List ℕ → List ℕ → Out Layout
 flip-out K file set work =
     with-layout K file (λ (l : Layout). holds-set set l && holds-row work l) (λ (l : Layout).
-    need (eqb (past-last (length (l .bodies)) set) 0) 21 0 (checked K l))
+    need-of (no-variant (length (l .bodies))) (eqb (past-last (length (l .bodies)) set) 0) 21 0 (checked K l))
 
 unfoldable pub flip-call : ℕ → List ℕ → List ℕ → List ℕ → Flipped
 flip-call K file set work = record {

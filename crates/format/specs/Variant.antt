@@ -16,6 +16,10 @@ file-variant v = record { 0 = v }
 abbrev pub block-variant : ℕ → BlockVariant
 block-variant i = record { 0 = i }
 
+-- 02, Ask 2: "M where no variant is concerned"
+abbrev pub no-variant : ℕ → FileVariant
+no-variant M = file-variant M
+
 abbrev pub next-variant : FileVariant → FileVariant
 next-variant v = file-variant (suc (v .0))
 

@@ -1,7 +1,8 @@
 // What a PGEN file is made of, as values (a pair code's pair, the two variant numbers), and what the public calls answer.
 // What they mean is defined in specs/; the laws of those definitions are in proofs/.
 ghost use mathlib.Core.Path.{_≡_};
-ghost use Rattle.format.specs.Base.{refusal};
+ghost use Rattle.format.specs.Base.{refusal, named};
+ghost use Rattle.format.specs.Reply.{named-reply};
 
 // 01, Categories and kinds: a pair code, its two categories, its code once 0 and 2 are exchanged, and whether that turns the pair's order.
 pub struct Pair {
@@ -51,17 +52,36 @@ pub struct Fields {
     pub form: u8,
 }
 
-// Demand 1: "A refusal has a number and a place."
+// Demand 1: "A refusal has a number and a place." 02, Ask 2: "let every reply carry a variant number besides the place".
 pub struct Refusal {
     pub number: u8,
     pub place: usize,
+    pub variant: FileVariant,
 }
 
 // The one spot where a refusal is made.
+pub fn refusal_of(variant: FileVariant, number: u8, place: usize) -> Refusal
+    ensures { λ r. ⌜ r ≡ named variant (refusal number place) ⌝ }
+{
+    Refusal {
+        number,
+        place,
+        variant,
+    }
+}
+
+// One that names variant 0, until it is known whose record is read.
 pub fn refusal_at(number: u8, place: usize) -> Refusal
     ensures { λ r. ⌜ r ≡ refusal number place ⌝ }
 {
-    Refusal { number, place }
+    refusal_of(FileVariant(0), number, place)
+}
+
+// The same refusal, with the variant that it names.
+pub fn named(variant: FileVariant, why: Refusal) -> Refusal
+    ensures { λ r. ⌜ r ≡ named variant why ⌝ }
+{
+    refusal_of(variant, why.number, why.place)
 }
 
 // 01, Replies: what a header check and a whole-file check give.
@@ -74,6 +94,16 @@ pub enum HeaderReply {
 pub enum Reply {
     Accepted,
     Refused(Refusal),
+}
+
+// 02, Ask 2: what a record is refused for names "the variant in whose record or type the fault lies".
+pub fn named_reply(variant: FileVariant, reply: Reply) -> Reply
+    ensures { λ r. ⌜ r ≡ named-reply variant reply ⌝ }
+{
+    match reply {
+        Reply::Accepted => Reply::Accepted,
+        Reply::Refused(why) => Reply::Refused(named(variant, why)),
+    }
 }
 
 // What a lookup gives.

@@ -17,8 +17,8 @@ use Rattle.format.specs.declared.Fields.{Fields}
 use Rattle.format.specs.declared.Refusal.{Refusal}
 use Rattle.format.specs.declared.HeaderReply.{HeaderReply}
 use Rattle.format.specs.declared.HeaderReply.the-variants.{Accepted, Refused}
-use Rattle.format.specs.Base.{pick, ok, refused, refusal, refuse}
-use Rattle.format.specs.Variant.{file-variant}
+use Rattle.format.specs.Base.{pick, ok, refused, refusal, refuse, named, refuse-of}
+use Rattle.format.specs.Variant.{file-variant, no-variant}
 use Rattle.format.specs.Layout.{Fixed, Arrays, sum, block-count, block-size, header-end, first-record}
 use Rattle.format.specs.Header.{type-place}
 use Rattle.format.specs.Reply.{summary, header-left}
@@ -28,7 +28,7 @@ use Rattle.head_index.specs.VariantsAt.{block-variants}
 use Rattle.head_index.specs.Rules.{need-unused, unused-arrays, bad-type, refuse-found, wrong-offset, starts-of, after-fixed, after-types, after-offsets}
 use Rattle.head_index.specs.Known.{Passed}
 use Rattle.head_index.proofs.RefusalsByIndexArrays.{passed-known}
-use Rattle.head_index.proofs.RefusalsByIndexRecords.{refusal-8, refusal-9-offset}
+use Rattle.head_index.proofs.RefusalsByIndexRecords.{refusal-8, refusal-9-offset, offset-wrong}
 use Rattle.head_blocks.specs.declared.Blocks.{Blocks}
 use Rattle.head_blocks.specs.declared.Unused.{Unused}
 use Rattle.head_blocks.specs.declared.Unused.the-variants.{Clear, At}
@@ -41,8 +41,8 @@ use Rattle.head_columns.proofs.Arrangement.{place-is}
 use Rattle.head_check.specs.Ready.{Held, Placed}
 use Rattle.head_check.specs.declared.Found.{Found}
 use Rattle.head_check.specs.declared.Found.the-variants as found
-use Rattle.head_check.specs.Finding.{earlier-of, found-then, UnusedFound, TypesFound, EndsFound}
-use Rattle.head_check.proofs.Handed.{Ranges, ranges, held-variants, refused-as, seven, beyond-7, nine-end, accepts}
+use Rattle.head_check.specs.Finding.{earlier-of, found-then, UnusedFound, TypesFound, EndsFound, found-unused}
+use Rattle.head_check.proofs.Handed.{Ranges, ranges, held-variants, refused-as, names, seven, beyond-7, nine-end, accepts}
 use Rattle.head_check.proofs.BlockedLaws.{blocks-fit, last-unused}
 
 -- ---- 7
@@ -78,10 +78,11 @@ module _ {bs : List ℕ} {f : Fields} {b : Blocks} (c : Placed bs f b) where
           ∙ sym (last-unused (fixed f) bs (c .blocked) (given-ranges .variants-least))
 
       pub clears : r ≡ Clear → UnusedFound bs f found.Nothing
-      clears q = record { same = rw q at all-unused; seven = tt }
+      clears q = record { unused = r; is = all-unused; told = rw q refl }
 
-      pub unclear : {place : ℕ} {why : Refusal} → r ≡ At place → why ≡ refusal 7 place → UnusedFound bs f (found.Refused why)
-      unclear q z = record { same = ap refused z ∙ rw q at all-unused; seven = ap (λ (x : Refusal). x .number) z }
+      pub unclear : {place : ℕ} {why : Refusal} → r ≡ At place → why ≡ named (no-variant (f .variants)) (refusal 7 place)
+          → UnusedFound bs f (found.Refused why)
+      unclear q z = record { unused = r; is = all-unused; told = rw (q, z) refl }
 
 pub ruleset seven-laws = (some-variant, last-block-few, last-block-inside, blocks-before-fit, block-place-fits, last-fits, clears, unclear)
 
@@ -107,10 +108,10 @@ module _ {bs : List ℕ} {f : Fields} {b : Blocks} (c : Placed bs f b) where
           rw (← w) at (refusal-8 65536 bs a p)
 
       pub bad-8 : {v : FileVariant} {place : ℕ} {why : Refusal} → r ≡ At v → ((f₁ : Fixed) → b ≡ blocks-of f₁ → place ≡ type-place 65536 f₁ v)
-          → why ≡ refusal 8 place → refused why ≡ after-fixed 65536 bs
+          → why ≡ named v (refusal 8 place) → refused why ≡ after-fixed 65536 bs
       bad-8 l q z =
           let d = q (fixed-at bs) (c .b-is ∙ ap blocks-of (sym (c .held .ready .same))) in
-          ap refused z ∙ sym (decided ∙ rw l (ap (refuse 8) (sym d)))
+          ap refused z ∙ sym (decided ∙ rw l (ap (refuse-of _ 8) (sym d)))
 
       pub beyond-8 : r ≡ Nowhere → after-types 65536 bs a ≡ after-fixed 65536 bs
       beyond-8 l = sym (decided ∙ rw l refl)
@@ -164,12 +165,13 @@ module _ {bs : List ℕ} {f : Fields} {b : Blocks} (c : Placed bs f b) {first : 
       pub offset-place-fits : Fits w64 (12 + 8 * j)
       offset-place-fits = omega (arith, few-blocks)
 
-    pub nine-offset : {why : Refusal} → why ≡ refusal 9 (12 + 8 * j) → EndsFound bs (Refused why)
+    pub nine-offset : {why : Refusal} → why ≡ named (no-variant (f .variants)) (refusal 9 (12 + 8 * j)) → EndsFound bs (Refused why)
     nine-offset z a p =
         let w = at-offset a p in
         refused-as (after-types 65536 bs a)
         (refusal-9-offset 65536 bs a p
-        ∙ simp (lt-ltb (wrong bs a) (block-count 65536 (fixed-at bs)) (omega (arith, w .1, blocks-are))) (ap (λ (x : ℕ). refuse 9 (12 + 8 * x)) (sym (w .0)))
+        ∙ simp (lt-ltb (wrong bs a) (block-count 65536 (fixed-at bs)) (omega (arith, w .1, blocks-are))) (ap (offset-wrong (fixed-at bs)) (sym (w .0)))
+        ∙ names (c .held .ready) 9 (12 + 8 * j)
         ∙ ap refused (sym z))
 
   module _ {x : ℕ} (q : r ≡ RecordsEnd x) (a : Arrays) (p : Passed 65536 bs a) where
@@ -182,7 +184,8 @@ module _ {bs : List ℕ} {f : Fields} {b : Blocks} (c : Placed bs f b) {first : 
     total : x ≡ first-record 65536 (fixed f) + sum (a .columns .lengths)
     total = at-end .0 ∙ rw i refl
 
-  pub nine-last : {x : ℕ} {why : Refusal} → r ≡ RecordsEnd x → (x ≡ length bs → ⊥) → why ≡ refusal 9 (length bs) → EndsFound bs (Refused why)
+  pub nine-last : {x : ℕ} {why : Refusal} → r ≡ RecordsEnd x → (x ≡ length bs → ⊥) → why ≡ named (no-variant (f .variants)) (refusal 9 (length bs))
+      → EndsFound bs (Refused why)
   nine-last q n z a p =
       refused-as (after-types 65536 bs a) (nine-end (c .held) a p (beyond-9 q a p) (λ s. n (total q a p ∙ s)) ∙ ap refused (sym z))
 
@@ -203,15 +206,15 @@ module _ {bs : List ℕ} {f : Fields} (h : Held bs f) (unused bad : Found) (u : 
     (e : r ≡ earlier-of unused bad) where
   -- one of the first two
   pub one-refused : {why : Refusal} → r ≡ found.Refused why → header-left (Refused why) ≡ summary (after-fixed 65536 bs)
-  one-refused {why} q = refused-as (after-fixed 65536 bs) (go unused u (sym q ∙ e))
+  one-refused {why} q = refused-as (after-fixed 65536 bs) (go (u .unused) (u .is) (rw (u .told) at (sym q ∙ e)))
     where
-      go : (s : Found) → UnusedFound bs f s → found.Refused why ≡ earlier-of s bad → after-fixed 65536 bs ≡ refused why
-      go (found.Refused first) w e =
-          let n : first ≡ refusal 7 (first .place) = rw (w .seven) refl in
-          let d : why ≡ first = cc in
-          seven h (first .place) (sym (w .same) ∙ ap refused n) ∙ ap refused (sym n ∙ sym d)
-      go found.Nothing w e =
-          let g = beyond-7 h (sym (w .same)) in
+      go : (s : Unused) → unused-out s ≡ unused-arrays 65536 (fixed f) bs → found.Refused why ≡ earlier-of (found-unused (f .variants) s) bad
+          → after-fixed 65536 bs ≡ refused why
+      go (At place) w e =
+          let d : why ≡ named (no-variant (f .variants)) (refusal 7 place) = cc in
+          seven h place (sym w) ∙ ap refused (sym d)
+      go Clear w e =
+          let g = beyond-7 h (sym w) in
           sym (k (g .0) (g .1)) ∙ rw (← e) refl
 
   -- neither
@@ -224,7 +227,12 @@ module _ {bs : List ℕ} {f : Fields} (h : Held bs f) (unused bad : Found) (u : 
         go found.Nothing e = (refl, sym e)
 
     pub cleared : unused-arrays 65536 (fixed f) bs ≡ ok tt []
-    cleared = sym (ap (λ (z : Found). found-then z (ok tt [])) (sym (both-clear .0)) ∙ u .same)
+    cleared = go (u .unused) (u .is) (sym (u .told) ∙ both-clear .0)
+      where
+        go : (s : Unused) → unused-out s ≡ unused-arrays 65536 (fixed f) bs → found-unused (f .variants) s ≡ found.Nothing
+            → unused-arrays 65536 (fixed f) bs ≡ ok tt []
+        go (At place) w e = absurd (let z : _≡_ {A = ℕ} 0 1 = cc in omega arith)
+        go Clear w e = sym w
 
     pub neither : (m : HeaderReply) → EndsFound bs m → header-left m ≡ summary (after-fixed 65536 bs)
     neither m s =

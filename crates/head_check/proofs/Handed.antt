@@ -10,10 +10,11 @@ use borrow.Author.Tests.{lt-leb, le-leb}
 use Rattle.format.specs.declared.Fields.{Fields}
 use Rattle.format.specs.declared.Refusal.{Refusal}
 use Rattle.format.specs.declared.HeaderReply.the-variants.{Accepted, Refused}
-use Rattle.format.specs.Base.{pick, Out, ok, refused, refuse}
+use Rattle.format.specs.Base.{pick, Out, ok, refused, refuse, refuse-of}
 use Rattle.format.specs.Limits.{most-samples, most-variants}
 use Rattle.format.specs.Layout.{Fixed, unblocked, from-1-to, mode-covered, Arrays, sum, header-end, first-record, Layout}
 use Rattle.format.specs.Reply.{summary, header-left}
+use Rattle.format.specs.Variant.{no-variant}
 use Rattle.format.proofs.OffsetsLaws.{from-1-to-most, from-1-to-positive}
 use Rattle.head_index.specs.NumbersAt.{fixed-at}
 use Rattle.head_index.specs.Rules.{unused-arrays, after-fixed, after-offsets, layout-at}
@@ -77,21 +78,26 @@ held-samples h = ranges (h .ready) .samples-most
 pub refused-as : {why : Refusal} (m : Out Layout) → m ≡ refused why → header-left (Refused why) ≡ summary m
 refused-as m e = rw e refl
 
+-- the header's M is the one that was read
+pub names : {bs : List ℕ} {f : Fields} → FieldsPassed bs f → (number place : ℕ)
+    → refuse-of {A = Layout} (no-variant (fixed-at bs .variants)) number place ≡ refuse-of (no-variant (f .variants)) number place
+names r number place = ap (λ (z : Fixed). refuse-of (no-variant (z .variants)) number place) (r .same)
+
 module _ {bs : List ℕ} {f : Fields} (h : Held bs f) where
   fits : header-end 65536 (fixed-at bs) ≤ length bs
   fits = rw (h .ready .same) (h .fits)
 
   -- 7
-  pub seven : (place : ℕ) → unused-arrays 65536 (fixed f) bs ≡ refuse 7 place → after-fixed 65536 bs ≡ refuse 7 place
-  seven place u = refusal-7 65536 place bs (h .ready .bytes) fits (rw (h .ready .same) u)
+  pub seven : (place : ℕ) → unused-arrays 65536 (fixed f) bs ≡ refuse 7 place → after-fixed 65536 bs ≡ refuse-of (no-variant (f .variants)) 7 place
+  seven place u = refusal-7 65536 place bs (h .ready .bytes) fits (rw (h .ready .same) u) ∙ names (h .ready) 7 place
 
   pub beyond-7 : unused-arrays 65536 (fixed f) bs ≡ ok tt [] → (a : Arrays) × Passed 65536 bs a
   beyond-7 u = passed-7 65536 bs (lit< tt) (h .ready .bytes) fits (rw (h .ready .same) u)
 
   module _ (a : Arrays) (p : Passed 65536 bs a) {m : Out Layout} (e : m ≡ after-offsets 65536 bs a) where
     -- 9, at the file's end
-    pub nine-end : (first-record 65536 (fixed f) + sum (a .columns .lengths) ≡ length bs → ⊥) → m ≡ refuse 9 (length bs)
-    nine-end n = e ∙ refusal-9-end 65536 bs a p fits (λ q. n (rw (h .ready .same) at q))
+    pub nine-end : (first-record 65536 (fixed f) + sum (a .columns .lengths) ≡ length bs → ⊥) → m ≡ refuse-of (no-variant (f .variants)) 9 (length bs)
+    nine-end n = e ∙ refusal-9-end 65536 bs a p fits (λ q. n (rw (h .ready .same) at q)) ∙ names (h .ready) 9 (length bs)
 
     -- accepted
     pub accepts : first-record 65536 (fixed f) + sum (a .columns .lengths) ≡ length bs → header-left (Accepted f) ≡ summary m

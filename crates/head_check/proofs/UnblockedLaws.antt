@@ -13,11 +13,12 @@ use native.Mathlib.Omega.{arith}
 use Rattle.format.specs.declared.Fields.{Fields}
 use Rattle.format.specs.declared.Refusal.{Refusal}
 use Rattle.format.specs.declared.HeaderReply.the-variants.{Accepted, Refused}
-use Rattle.format.specs.Base.{pick, ok, refused, refusal, refuse, need}
+use Rattle.format.specs.Base.{pick, ok, refused, refusal, refuse, need, named}
 use Rattle.format.specs.Packed.{one, packed-size}
 use Rattle.format.specs.Limits.{most-variants, most-samples}
 use Rattle.format.specs.Layout.{Fixed, unblocked, fixed-size, form-of, flag-count, Arrays, sum, header-end, first-record}
 use Rattle.format.specs.Reply.{summary, header-left}
+use Rattle.format.specs.Variant.{no-variant}
 use Rattle.head_index.specs.NumbersAt.{unused-bits}
 use Rattle.head_index.specs.Rules.{unused-arrays, after-fixed, after-offsets}
 use Rattle.head_index.specs.Known.{Passed}
@@ -61,7 +62,8 @@ module _ {bs : List ℕ} {f : Fields} (h : Held bs f) where
 
     module _ {clear : Bool} (d : clear ≡ eqb (unused-bits one (pick (eqb (f .form / 64) 3) (f .variants) 0) (drop 12 bs)) 0) where
       -- 7
-      pub flags-7 : {why : Refusal} {end : ℕ} → not clear ≡ true → end ≡ header-end 65536 (fixed f) → why ≡ refusal 7 (end - 1)
+      pub flags-7 : {why : Refusal} {end : ℕ} → not clear ≡ true → end ≡ header-end 65536 (fixed f)
+          → why ≡ named (no-variant (f .variants)) (refusal 7 (end - 1))
           → header-left (Refused why) ≡ summary (after-fixed 65536 bs)
       flags-7 {end = end} c e z =
           let u : unused-arrays 65536 (fixed f) bs ≡ refuse 7 (end - 1)
@@ -80,7 +82,7 @@ module _ {bs : List ℕ} {f : Fields} (h : Held bs f) where
 
         module _ {first size : ℕ} (e : first ≡ first-record 65536 (fixed f)) (s : size ≡ fixed-size (fixed f)) where
           -- 9
-          pub records-9 : {why : Refusal} → (first + f .variants * size ≡ length bs → ⊥) → why ≡ refusal 9 (length bs)
+          pub records-9 : {why : Refusal} → (first + f .variants * size ≡ length bs → ⊥) → why ≡ named (no-variant (f .variants)) (refusal 9 (length bs))
               → header-left (Refused why) ≡ summary (after-fixed 65536 bs)
           records-9 n z =
               refused-as (after-fixed 65536 bs) (nine-end h (passed .0) (passed .1) goes-on (λ q. n (rw (e, s, ← total) q)) ∙ ap refused (sym z))

@@ -5,13 +5,16 @@ use Prim.Native.Nat.{ℕ}
 use mathlib.Core.List.{List, []}
 use Rattle.format.specs.declared.Fields.{Fields}
 use Rattle.format.specs.declared.HeaderReply.{HeaderReply}
-use Rattle.format.specs.Base.{Out, ok, refused}
+use Rattle.format.specs.Base.{Out, refused, refusal, named}
 use Rattle.format.specs.Limits.{variants-to-a-block}
+use Rattle.format.specs.Variant.{no-variant}
 use Rattle.format.specs.Layout.{Arrays}
 use Rattle.format.specs.Reply.{summary, header-left}
 use Rattle.head_index.specs.Rules.{unused-arrays, after-fixed, after-types}
 use Rattle.head_index.specs.Known.{Passed}
-use Rattle.head_blocks.specs.Parts.{fixed}
+use Rattle.head_blocks.specs.declared.Unused.{Unused}
+use Rattle.head_blocks.specs.declared.Unused.the-variants.{Clear, At}
+use Rattle.head_blocks.specs.Parts.{fixed, unused-out}
 use Rattle.head_check.specs.declared.Found.{Found}
 use Rattle.head_check.specs.declared.Found.the-variants.{Nothing, Refused}
 
@@ -25,15 +28,15 @@ abbrev pub found-then : {A : Type 0} → Found → Out A → Out A
 found-then (Refused why) next = refused why
 found-then Nothing next = next
 
--- under this number
-abbrev pub Numbered : ℕ → Found → Type 0
-Numbered n (Refused why) = why .number ≡ n
-Numbered n Nothing = Unit {0}
+-- 7: as found of the unused bits. 02, Ask 2: "M where no variant is concerned"
+abbrev pub found-unused : ℕ → Unused → Found
+found-unused M (At place) = Refused (named (no-variant M) (refusal 7 place))
+found-unused M Clear = Nothing
 
--- 7: what was found of the unused bits
 pub record UnusedFound (bs : List ℕ) (f : Fields) (r : Found) : Type 0 where
-  pub same : found-then r (ok tt []) ≡ unused-arrays variants-to-a-block (fixed f) bs
-  pub seven : Numbered 7 r
+  pub unused : Unused
+  pub is : unused-out unused ≡ unused-arrays variants-to-a-block (fixed f) bs
+  pub told : r ≡ found-unused (f .variants) unused
 
 -- 8: of the types, whichever arrays the file holds once 7 has passed
 abbrev pub TypesFound : List ℕ → Found → Type 0

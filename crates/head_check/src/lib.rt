@@ -1,4 +1,4 @@
-// The header check: refusals 1 to 9 in their order, each at its place.
+// The header check: refusals 1 to 9 in their order, each at its place. 02, Ask 2: each names a variant, "M where no variant is concerned, 0 in 1 to 4".
 ghost use mathlib.Core.Path.{_≡_};
 ghost use mathlib.Core.Bool.{true, false};
 ghost use mathlib.Core.List.{[]};
@@ -14,6 +14,7 @@ ghost use Rattle.head_blocks.specs.Parts.{fixed};
 ghost use Rattle.head_check.specs.Ready.{FieldsPassed, Held, Placed};
 ghost use Rattle.head_check.specs.Finding.{earlier-of, UnusedFound, TypesFound, EndsFound};
 use format::Fields;
+use format::FileVariant;
 use format::FoundInFile;
 use format::HeaderReply;
 use format::MOST_SAMPLES;
@@ -21,6 +22,7 @@ use format::MOST_VARIANTS;
 use format::Refusal;
 use format::VARIANTS_TO_A_BLOCK;
 use format::refusal_at;
+use format::refusal_of;
 use head_blocks::Blocks;
 use head_blocks::Unused;
 use head_blocks::blocks_of;
@@ -74,10 +76,10 @@ fn check_unblocked(file: &[u8], f: Fields, end: usize) -> HeaderReply
     ensures { λ r. ⌜ header-left r ≡ summary (after-fixed variants-to-a-block (now (file .entry))) ⌝ }
 {
     if !flags_clear(file, 12, f.variants, f.form / 64 == 3) {
-        return HeaderReply::Refused(refusal_at(7, end - 1));
+        return HeaderReply::Refused(refusal_of(FileVariant(f.variants), 7, end - 1));
     }
     if first_record(f) + f.variants * fixed_size(f) != file.len() {
-        return HeaderReply::Refused(refusal_at(9, file.len()));
+        return HeaderReply::Refused(refusal_of(FileVariant(f.variants), 9, file.len()));
     }
     HeaderReply::Accepted(f)
 }
@@ -88,10 +90,14 @@ fn check_ends(file: &[u8], f: Fields, b: Blocks) -> HeaderReply
     ensures { λ r. ⌜ EndsFound (now (file .entry)) r ⌝ }
 {
     match records_end(file, f.variants, b, first_record(f)) {
-        Ends::WrongOffset(block) => HeaderReply::Refused(refusal_at(9, 12 + 8 * block)),
+        Ends::WrongOffset(block) => HeaderReply::Refused(refusal_of(
+            FileVariant(f.variants),
+            9,
+            12 + 8 * block,
+        )),
         Ends::RecordsEnd(last) => {
             if last != file.len() as u64 {
-                return HeaderReply::Refused(refusal_at(9, file.len()));
+                return HeaderReply::Refused(refusal_of(FileVariant(f.variants), 9, file.len()));
             }
             HeaderReply::Accepted(f)
         }
@@ -121,18 +127,18 @@ fn find_unused(file: &[u8], f: Fields, b: Blocks) -> Found
 {
     let last = (f.variants - 1) / VARIANTS_TO_A_BLOCK;
     match unused_in(file, b.at + last * b.full, count_in(f.variants, last), b) {
-        Unused::At(place) => Found::Refused(refusal_at(7, place)),
+        Unused::At(place) => Found::Refused(refusal_of(FileVariant(f.variants), 7, place)),
         Unused::Clear => Found::Nothing,
     }
 }
 
-// 8, "type not allowed".
+// 8, "type not allowed". 02, Ask 2: it names the variant of that type, "the lower one where one byte holds two such types".
 fn bad_types(file: &[u8], f: Fields, b: Blocks) -> Found
     requires { ⌜ Placed (now file) f b ⌝ }
     ensures { λ r. ⌜ TypesFound (now (file .entry)) r ⌝ }
 {
     match bad_type(file, f.variants, b) {
-        FoundInFile::At(v) => Found::Refused(refusal_at(8, type_place(b, v))),
+        FoundInFile::At(v) => Found::Refused(refusal_of(v, 8, type_place(b, v))),
         FoundInFile::Nowhere => Found::Nothing,
     }
 }
@@ -158,7 +164,7 @@ fn check_arrays(file: &[u8], f: Fields) -> HeaderReply
 {
     let end = header_end(f);
     if file.len() < end {
-        return HeaderReply::Refused(refusal_at(6, file.len()));
+        return HeaderReply::Refused(refusal_of(FileVariant(f.variants), 6, file.len()));
     }
     if is_unblocked(f.mode) {
         return check_unblocked(file, f, end);
@@ -181,7 +187,7 @@ fn check_fields(file: &[u8], f: Fields) -> HeaderReply
         return HeaderReply::Refused(refusal_at(4, 7));
     }
     if !form_allowed(f.mode, f.form) {
-        return HeaderReply::Refused(refusal_at(5, 11));
+        return HeaderReply::Refused(refusal_of(FileVariant(f.variants), 5, 11));
     }
     check_arrays(file, f)
 }

@@ -9,12 +9,12 @@ use lib.ListN.{length, getD, drop, length-drop}
 use lib.Seq.{drop-drop, getD-drop}
 use native.Mathlib.Omega.{arith}
 use Rattle.format.specs.declared.FileVariant.{FileVariant}
-use Rattle.format.specs.Base.{Bytes, Out, ok, bind, map-out, refused}
+use Rattle.format.specs.Base.{Bytes, Out, ok, bind, map-out, refused, naming}
 use Rattle.format.specs.Body.{Body, body-leans, read-body, body-categories, type-leans}
 use Rattle.format.specs.Variant.{file-variant, next-variant, in-block, anchor}
 use Rattle.format.specs.Layout.{sum, first-record, Layout, fixed-of, record-start, TypesAllowed, LayoutObeys}
 use Rattle.format.specs.File.{next-anchor, rows-as, read-records, read-all, type-of, over-as, read-over, variant-as, variant-leans}
-use Rattle.format.proofs.Rules.{never-both, Holds, by-test, split}
+use Rattle.format.proofs.Rules.{never-both, Holds, by-test, split, by-naming}
 use Rattle.format.proofs.BodyLaws.{IsBody, body-as-written, kept-leaning}
 use Rattle.format.proofs.RowLaws.{anchor-unused, row-anchor-unused}
 use Rattle.format.proofs.AnchorLaws.{first-stands, anchor-after-leaning, anchor-after-standing}
@@ -32,16 +32,24 @@ module _ (K : ℕ) (l : Layout) (p : zero < K) (h : LayoutObeys K l) where
   Lent v lent = variant-leans l (file-variant v) ≡ true → read-over K l [] (anchor K (l .types) (file-variant v)) ≡ ok lent []
 
   abbrev record-at : ℕ → List ℕ → Out Body
-  record-at v lent = read-body (record-start K l (file-variant (suc v))) (l .samples) lent (type-of l (file-variant v)) (getD (l .bodies) v [])
+  record-at v lent =
+      naming (file-variant v)
+      (read-body (record-start K l (file-variant (suc v))) (l .samples) lent (type-of l (file-variant v)) (getD (l .bodies) v []))
 
-  -- a body that was read of variant v leans as its type does
+  -- what was read of variant v is the body that its bytes are
+  pub read-is : (v : ℕ) (lent : List ℕ) (body : Body) (left : List ℕ) → Bytes (getD (l .bodies) v []) → record-at v lent ≡ ok body left
+      → IsBody (l .samples) lent (type-of l (file-variant v)) (getD (l .bodies) v []) body left
+  read-is v lent body left y e =
+      let end : ℕ = record-start K l (file-variant (suc v)) in
+      let type : ℕ = type-of l (file-variant v) in
+      let bs : List ℕ = getD (l .bodies) v [] in
+      subst (Holds (IsBody (l .samples) lent type bs)) e
+      (by-naming _ (file-variant v) (read-body end (l .samples) lent type bs) (body-as-written end (l .samples) lent type bs y))
+
+  -- it leans as its type does
   pub read-leans : (v : ℕ) (lent : List ℕ) (body : Body) (left : List ℕ) → Bytes (getD (l .bodies) v []) → record-at v lent ≡ ok body left
       → (body-leans body ≡ variant-leans l (file-variant v)) × (left ≡ [])
-  read-leans v lent body left y e =
-      let w : IsBody (l .samples) lent (type-of l (file-variant v)) (getD (l .bodies) v []) body left
-      = subst (Holds (IsBody (l .samples) lent (type-of l (file-variant v)) (getD (l .bodies) v []))) e
-      (body-as-written (record-start K l (file-variant (suc v))) (l .samples) lent (type-of l (file-variant v)) (getD (l .bodies) v []) y) in
-      (kept-leaning w, w .ended)
+  read-leans v lent body left y e = let w = read-is v lent body left y e in (kept-leaning w, w .ended)
 
   -- whatever is read of a body that leans on none is the same over every anchor
   abbrev pub Unleaning : {A : Type 0} → (ℕ → List ℕ → Body → A) → Type 0
@@ -52,7 +60,7 @@ module _ (K : ℕ) (l : Layout) (p : zero < K) (h : LayoutObeys K l) where
       → variant-leans l (file-variant v) ≡ false → over-as what K l [] (file-variant v) ≡ map-out (what (l .samples) lent) (record-at v lent)
   unfolding over-as
   stands-alike-as {A} what unleaning v lent y s =
-      ap (map-out (what (l .samples) []))
+      ap (λ (out : Out Body). map-out (what (l .samples) []) (naming (file-variant v) out))
       (anchor-unused (record-start K l (file-variant (suc v))) (l .samples) [] lent (type-of l (file-variant v)) (getD (l .bodies) v []) s)
       ∙ go (record-at v lent) refl
     where
@@ -107,17 +115,17 @@ module _ (K : ℕ) (l : Layout) (p : zero < K) (h : LayoutObeys K l) where
     -- one record, and then the rest
     one-more : (v : ℕ) (lent : List ℕ) (types : List ℕ) (stored : List (List ℕ)) → Bytes (getD (l .bodies) v []) → Lent v lent
         → ((next : List ℕ) → Lent (suc v) next
-        → map-out (rows-as what (l .samples) next) (read-records (l .samples) (record-start K l (file-variant (suc v))) next types stored)
+        → map-out (rows-as what (l .samples) next) (read-records (l .samples) (file-variant (suc v)) (record-start K l (file-variant (suc v))) next types stored)
         ≡ read-each what K l (length stored) (file-variant (suc v)))
         → (out : Out Body) → record-at v lent ≡ out
         → map-out (rows-as what (l .samples) lent) (bind out (λ body left. map-out (_∷_ body)
-        (read-records (l .samples) (record-start K l (file-variant (suc v)))
+        (read-records (l .samples) (file-variant (suc v)) (record-start K l (file-variant (suc v)))
         (next-anchor (variant-leans l (file-variant v)) lent (body-categories (l .samples) lent body)) types stored)))
         ≡ bind (map-out (what (l .samples) lent) out) (λ row left. map-out (_∷_ row) (read-each what K l (length stored) (file-variant (suc v))))
     one-more v lent types stored y i k (refused why) e = refl
     one-more v lent types stored y i k (ok body left) e =
         let next : List ℕ = next-anchor (variant-leans l (file-variant v)) lent (body-categories (l .samples) lent body) in
-        joined-rows (read-records (l .samples) (record-start K l (file-variant (suc v))) next types stored)
+        joined-rows (read-records (l .samples) (file-variant (suc v)) (record-start K l (file-variant (suc v))) next types stored)
         ∙ ap (map-out (_∷_ (what (l .samples) lent body))) (k next (lent-after v lent body left y i e))
       where
         same-next : next-anchor (body-leans body) lent (body-categories (l .samples) lent body)
@@ -133,7 +141,7 @@ module _ (K : ℕ) (l : Layout) (p : zero < K) (h : LayoutObeys K l) where
     -- the records from v on
     from-variant : (v : ℕ) (lent types : List ℕ) (stored : List (List ℕ)) → drop v (l .types) ≡ types → drop v (l .bodies) ≡ stored → AllBytes stored
         → Lent v lent
-        → map-out (rows-as what (l .samples) lent) (read-records (l .samples) (record-start K l (file-variant v)) lent types stored)
+        → map-out (rows-as what (l .samples) lent) (read-records (l .samples) (file-variant v) (record-start K l (file-variant v)) lent types stored)
         ≡ read-each what K l (length stored) (file-variant v)
     unfolding read-records read-each
     from-variant v lent [] [] a b y i = refl
@@ -166,7 +174,7 @@ module _ (K : ℕ) (l : Layout) (p : zero < K) (h : LayoutObeys K l) where
     pub check-in-order : AllBytes (l .bodies) → map-out (rows-as what (l .samples) []) (read-all K l) ≡ read-each what K l (length (l .bodies)) (file-variant 0)
     unfolding read-all record-start sum
     check-in-order y =
-        ap (λ (start : ℕ). map-out (rows-as what (l .samples) []) (read-records (l .samples) start [] (l .types) (l .bodies)))
+        ap (λ (start : ℕ). map-out (rows-as what (l .samples) []) (read-records (l .samples) (file-variant 0) start [] (l .types) (l .bodies)))
         (sym (add-zero (first-record K (fixed-of l))))
         ∙ from-variant 0 [] (l .types) (l .bodies) refl refl y (λ t. never-both t (first-leans-not (l .types) (h .types)))
       where

@@ -7,7 +7,7 @@ use mathlib.Core.List.{List, [], _∷_, _++_}
 use lib.ListN.{length, getD, take, drop}
 use lib.Seq.{drop-cons, drop-length, take-at, drop-at}
 use native.Mathlib.Omega.{arith}
-use Rattle.format.specs.Base.{pick, Bytes, Out, ok, bind, map-out, refused}
+use Rattle.format.specs.Base.{pick, Bytes, Out, ok, bind, map-out, refused, naming}
 use Rattle.format.specs.Body.{Body, read-body, body-categories, body-leans}
 use Rattle.format.specs.Variant.{file-variant}
 use Rattle.format.specs.Layout.{sum, first-record, Layout, fixed-of, record-start, LayoutObeys}
@@ -15,7 +15,7 @@ use Rattle.format.specs.File.{next-anchor, read-records, read-all, type-of, var
 use Rattle.format.proofs.Rules.{split, never-both, Holds}
 use Rattle.format.proofs.BodyLaws.{IsBody, body-as-written, kept-leaning}
 use Rattle.format.proofs.RowLaws.{body-row, anchor-unused, row-anchor-unused}
-use Rattle.head_index.proofs.InOrderLaws.{read-leans}
+use Rattle.head_index.proofs.InOrderLaws.{read-leans, read-is}
 use Rattle.head_index.proofs.StartLaws.{record-end}
 use Rattle.format.proofs.FileLaws.{one-type-each}
 use native.Mathlib.Nat.{add-zero}
@@ -31,11 +31,13 @@ outcome-map f (refused why) = refl
 
 -- what is left to check from variant v on, over the categories that it leans on
 unfoldable pub left-to-check : ℕ → Layout → ℕ → List ℕ → Out (Unit {0})
-left-to-check K l v lent = outcome (read-records (l .samples) (record-start K l (file-variant v)) lent (drop v (l .types)) (drop v (l .bodies)))
+left-to-check K l v lent = outcome (read-records (l .samples) (file-variant v) (record-start K l (file-variant v)) lent (drop v (l .types)) (drop v (l .bodies)))
 
 -- the record of variant v, read over those categories
 abbrev pub record-over : ℕ → Layout → ℕ → List ℕ → Out Body
-record-over K l v lent = read-body (record-start K l (file-variant (suc v))) (l .samples) lent (type-of l (file-variant v)) (getD (l .bodies) v [])
+record-over K l v lent =
+    naming (file-variant v)
+    (read-body (record-start K l (file-variant (suc v))) (l .samples) lent (type-of l (file-variant v)) (getD (l .bodies) v []))
 
 abbrev pub then-check : ℕ → Layout → ℕ → List ℕ → Out Body → Out (Unit {0})
 then-check K l v lent (ok body left) = left-to-check K l (suc v) (next-anchor (variant-leans l (file-variant v)) lent (body-categories (l .samples) lent body))
@@ -44,13 +46,13 @@ then-check K l v lent (refused why) = refused why
 -- at the start all is left, at the end nothing
 pub all-left : (K : ℕ) (l : Layout) → left-to-check K l 0 [] ≡ outcome (read-all K l)
 unfolding left-to-check read-all record-start sum
-all-left K l = ap (λ (start : ℕ). outcome (read-records (l .samples) start [] (l .types) (l .bodies))) (add-zero (first-record K (fixed-of l)))
+all-left K l = ap (λ (start : ℕ). outcome (read-records (l .samples) (file-variant 0) start [] (l .types) (l .bodies))) (add-zero (first-record K (fixed-of l)))
 
 pub none-left : (K : ℕ) (l : Layout) (lent : List ℕ) → LayoutObeys K l → left-to-check K l (length (l .bodies)) lent ≡ ok tt []
 unfolding left-to-check read-records
 none-left K l lent h =
     ap₂ (λ (types : List ℕ) (bodies : List (List ℕ)). outcome
-    (read-records (l .samples) (record-start K l (file-variant (length (l .bodies)))) lent types bodies))
+    (read-records (l .samples) (file-variant (length (l .bodies))) (record-start K l (file-variant (length (l .bodies)))) lent types bodies))
     (ap (λ (n : ℕ). drop n (l .types)) (sym (one-type-each K l h)) ∙ drop-length (l .types)) (drop-length (l .bodies))
 
 -- the record of v, and then what is left
@@ -62,21 +64,21 @@ turn-check K l v lent h m =
     let start : ℕ = record-start K l (file-variant v) in
     let body : List ℕ = getD (l .bodies) v [] in
     let there : v < length (l .types) = omega (arith, one-type-each K l h) in
-    ap₂ (λ (types : List ℕ) (bodies : List (List ℕ)). outcome (read-records N start lent types bodies))
+    ap₂ (λ (types : List ℕ) (bodies : List (List ℕ)). outcome (read-records N (file-variant v) start lent types bodies))
     (drop-cons (l .types) v 0 there) (drop-cons (l .bodies) v [] m)
-    ∙ ap (λ (end : ℕ). outcome (bind (read-body end N lent (type-of l (file-variant v)) body) (λ x left. map-out (_∷_ x)
-    (read-records N end (next-anchor (variant-leans l (file-variant v)) lent (body-categories N lent x)) (drop (suc v) (l .types))
+    ∙ ap (λ (end : ℕ). outcome (bind (naming (file-variant v) (read-body end N lent (type-of l (file-variant v)) body)) (λ x left. map-out (_∷_ x)
+    (read-records N (file-variant (suc v)) end (next-anchor (variant-leans l (file-variant v)) lent (body-categories N lent x)) (drop (suc v) (l .types))
     (drop (suc v) (l .bodies))))))
     (sym (record-end K (file-variant v) l m))
     ∙ go (record-over K l v lent)
   where
     go : (out : Out Body) → outcome (bind out (λ x left. map-out (_∷_ x)
-        (read-records (l .samples) (record-start K l (file-variant (suc v)))
+        (read-records (l .samples) (file-variant (suc v)) (record-start K l (file-variant (suc v)))
         (next-anchor (variant-leans l (file-variant v)) lent (body-categories (l .samples) lent x)) (drop (suc v) (l .types)) (drop (suc v) (l .bodies)))))
         ≡ then-check K l v lent out
     go (ok x left) =
         outcome-map (_∷_ x)
-        (read-records (l .samples) (record-start K l (file-variant (suc v)))
+        (read-records (l .samples) (file-variant (suc v)) (record-start K l (file-variant (suc v)))
         (next-anchor (variant-leans l (file-variant v)) lent (body-categories (l .samples) lent x)) (drop (suc v) (l .types)) (drop (suc v) (l .bodies)))
     go (refused why) = refl
 
@@ -88,7 +90,7 @@ module _ (K : ℕ) (l : Layout) (p : zero < K) (h : LayoutObeys K l) where
       → left-to-check K l v lent ≡ left-to-check K l v other
   over-any v lent other y m s =
       turn-check K l v lent h m
-      ∙ ap (then-check K l v lent)
+      ∙ ap (λ (out : Out Body). then-check K l v lent (naming (file-variant v) out))
       (anchor-unused (record-start K l (file-variant (suc v))) (l .samples) lent other (type-of l (file-variant v)) (getD (l .bodies) v []) s)
       ∙ go (record-over K l v other) refl
       ∙ sym (turn-check K l v other h m)
@@ -115,9 +117,7 @@ module _ (K : ℕ) (l : Layout) (p : zero < K) (h : LayoutObeys K l) where
   pub row-count : (v : ℕ) (lent : List ℕ) (body : Body) (left : List ℕ) → Bytes (getD (l .bodies) v []) → record-over K l v lent ≡ ok body left
       → variant-leans l (file-variant v) ≡ false → length (body-categories (l .samples) lent body) ≡ l .samples
   row-count v lent body left y e s =
-      let w : IsBody (l .samples) lent (type-of l (file-variant v)) (getD (l .bodies) v []) body left
-      = subst (Holds (IsBody (l .samples) lent (type-of l (file-variant v)) (getD (l .bodies) v []))) e
-      (body-as-written (record-start K l (file-variant (suc v))) (l .samples) lent (type-of l (file-variant v)) (getD (l .bodies) v []) y) in
+      let w = read-is K l p h v lent body left y e in
       body-row (l .samples) lent body (w .fits) (λ t. never-both t (kept-leaning w ∙ s)) .0
 
   -- a record's categories at the front of a row, unless it leans: then the row stays

@@ -9,7 +9,8 @@ use mathlib.Core.List.{List, _++_, map}
 use lib.ListN.{length, drop, length-drop}
 use native.Mathlib.Omega.{arith}
 use borrow.Author.Tests.{lt-leb}
-use Rattle.format.specs.Base.{Bytes, ok, refuse, numbered}
+use Rattle.format.specs.Base.{Bytes, ok, refuse, numbered, refuse-of}
+use Rattle.format.specs.Variant.{no-variant}
 use Rattle.format.specs.Packed.{one, more, packed-size}
 use Rattle.format.specs.Layout.{Fixed, fixed-bytes, unblocked, Form, form-of, flag-count, sum, block-count, cut, block-size, blocked-size}
 use Rattle.format.specs.Layout.{arrays-size, header-end, FixedObeys}
@@ -69,7 +70,8 @@ unfolding read-layout read-header after-fixed
 refusals-2-to-5 K bs h = simp (fixed-there (length bs) bs h) (fixed-then (fixed-at bs) (read-after-fixed K (length bs) (fixed-at bs) (drop 12 bs)) _)
 
 -- 6: the arrays do not fit
-pub refusal-6 : (K : ℕ) (bs : List ℕ) → 12 ≤ length bs → length bs < header-end K (fixed-at bs) → after-fixed K bs ≡ refuse 6 (length bs)
+pub refusal-6 : (K : ℕ) (bs : List ℕ) → 12 ≤ length bs → length bs < header-end K (fixed-at bs)
+    → after-fixed K bs ≡ refuse-of (no-variant (fixed-at bs .variants)) 6 (length bs)
 unfolding after-fixed read-after-fixed
 refusal-6 K bs h l = simp (lt-leb (arrays-size K (fixed-at bs)) (length (drop 12 bs)) (rw length-drop (omega arith)))
 

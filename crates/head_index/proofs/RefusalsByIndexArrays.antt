@@ -9,10 +9,10 @@ use lib.Seq.{drop-drop, drop-at}
 use lib.Dec.{eqb}
 use native.Mathlib.Omega.{arith}
 use borrow.Author.Tests.{le-leb}
-use Rattle.format.specs.Base.{pick, Bytes, Out, ok, refuse, map-out, need, numbered, refused}
+use Rattle.format.specs.Base.{pick, Bytes, Out, ok, refuse, map-out, need, numbered, refused, named, refusal, refuse-of}
 use Rattle.format.specs.Numbers.{read-numbers}
 use Rattle.format.specs.Packed.{Bits, one, packed-size, read-packed}
-use Rattle.format.specs.Variant.{file-variant}
+use Rattle.format.specs.Variant.{file-variant, no-variant}
 use Rattle.format.specs.Layout.{Fixed, fixed-bytes, unblocked, Form, form-of, flag-count, Columns, Arrays, sum, block-count, block-sizes, block-size}
 use Rattle.format.specs.Layout.{blocked-size, arrays-bytes, arrays-size, header-end, in-parts}
 use Rattle.format.specs.Header.{read-block, read-blocks, read-blocked, unblocked-arrays, read-arrays, header-with, need-types, read-after-fixed, read-data}
@@ -123,7 +123,7 @@ fits-rest K bs h = rw length-drop (omega arith)
 
 -- 7: unused bits are set
 pub refusal-7 : (K place : ℕ) (bs : List ℕ) → Bytes bs → header-end K (fixed-at bs) ≤ length bs → unused-arrays K (fixed-at bs) bs ≡ refuse 7 place
-    → after-fixed K bs ≡ refuse 7 place
+    → after-fixed K bs ≡ refuse-of (no-variant (fixed-at bs .variants)) 7 place
 unfolding after-fixed read-after-fixed
 refusal-7 K place bs y h u =
     let e : numbered 7 (read-arrays K (length bs) (fixed-at bs) (drop 12 bs)) ≡ refuse 7 place

@@ -11,9 +11,9 @@ use native.Mathlib.Omega.{arith}
 use borrow.Author.Tests.{lt-ltb, le-ltb}
 use Rattle.format.specs.declared.FileVariant.{FileVariant}
 use Rattle.format.specs.declared.FoundInFile.the-variants.{At}
-use Rattle.format.specs.Base.{pick, Out, ok, refuse, map-out, numbered, refused}
+use Rattle.format.specs.Base.{pick, Out, ok, refuse, map-out, numbered, refused, named, refusal, refuse-of}
 use Rattle.format.specs.Numbers.{read-bytes}
-use Rattle.format.specs.Variant.{file-variant, next-variant, in-block}
+use Rattle.format.specs.Variant.{file-variant, next-variant, in-block, no-variant}
 use Rattle.format.specs.Layout.{Fixed, unblocked, Arrays, sum, block-count, first-record, fixed-size, ColumnsUnblocked}
 use Rattle.format.specs.Layout.{type-allowed, TypesAllowed}
 use Rattle.format.specs.Header.{Header, header-with, type-place, need-types, need-offsets, split-bodies, layout-of, read-bodies, read-data}
@@ -35,31 +35,35 @@ types-by-index K f v [] next = refl
 types-by-index K f v (type ∷ types) next = go (type-allowed (in-block K v) type) (types-by-index K f (next-variant v) types next)
   where
     go : (t : Bool) → need-types K f (next-variant v) types next ≡ refuse-found K f (bad-type K (next-variant v) types) next
-        → pick t (need-types K f (next-variant v) types next) (refuse 8 (type-place K f v))
+        → pick t (need-types K f (next-variant v) types next) (refuse-of v 8 (type-place K f v))
         ≡ refuse-found K f (pick t (bad-type K (next-variant v) types) (At v)) next
     go true h = h
     go false h = refl
 
 -- ---- 9: the first offset that is wrong
 
+-- that of block j is; the refusal names no variant
+abbrev pub offset-wrong : {A : Type 0} → Fixed → ℕ → Out A
+offset-wrong f j = refuse-of (no-variant (f .variants)) 9 (12 + 8 * j)
+
 -- the rule by that offset
-pub offsets-by-index : {A : Type 0} (j : ℕ) (offsets starts : List ℕ) (next : Out A) → length offsets ≡ length starts
-    → need-offsets (12 + 8 * j) offsets starts next
-    ≡ pick (ltb (wrong-offset j offsets starts) (j + length offsets)) (refuse 9 (12 + 8 * wrong-offset j offsets starts)) next
+pub offsets-by-index : {A : Type 0} (f : Fixed) (j : ℕ) (offsets starts : List ℕ) (next : Out A) → length offsets ≡ length starts
+    → need-offsets f (12 + 8 * j) offsets starts next
+    ≡ pick (ltb (wrong-offset j offsets starts) (j + length offsets)) (offset-wrong f (wrong-offset j offsets starts)) next
 unfolding need-offsets wrong-offset
-offsets-by-index j [] starts next l = simp (le-ltb j (j + 0) (omega arith))
-offsets-by-index j (offset ∷ offsets) [] next l = absurd (omega arith)
-offsets-by-index j (offset ∷ offsets) (start ∷ starts) next l =
+offsets-by-index f j [] starts next l = simp (le-ltb j (j + 0) (omega arith))
+offsets-by-index f j (offset ∷ offsets) [] next l = absurd (omega arith)
+offsets-by-index f j (offset ∷ offsets) (start ∷ starts) next l =
     let a : 12 + 8 * j + 8 ≡ 12 + 8 * suc j = omega arith in
     let b : j + suc (length offsets) ≡ suc j + length offsets = omega arith in
-    rw (a, b) (go (eqb offset start) (offsets-by-index (suc j) offsets starts next (omega arith)))
+    rw (a, b) (go (eqb offset start) (offsets-by-index f (suc j) offsets starts next (omega arith)))
   where
     later : ℕ
     later = wrong-offset (suc j) offsets starts
 
-    go : (t : Bool) → need-offsets (12 + 8 * suc j) offsets starts next ≡ pick (ltb later (suc j + length offsets)) (refuse 9 (12 + 8 * later)) next
-        → pick t (need-offsets (12 + 8 * suc j) offsets starts next) (refuse 9 (12 + 8 * j))
-        ≡ pick (ltb (pick t later j) (suc j + length offsets)) (refuse 9 (12 + 8 * pick t later j)) next
+    go : (t : Bool) → need-offsets f (12 + 8 * suc j) offsets starts next ≡ pick (ltb later (suc j + length offsets)) (offset-wrong f later) next
+        → pick t (need-offsets f (12 + 8 * suc j) offsets starts next) (offset-wrong f j)
+        ≡ pick (ltb (pick t later j) (suc j + length offsets)) (offset-wrong f (pick t later j)) next
     go true h = h
     go false h = simp (lt-ltb j (suc j + length offsets) (omega arith))
 
@@ -122,14 +126,14 @@ module _ (end : ℕ) (h : Header) (bs : List ℕ) where
 
   -- 9: by the first offset that is wrong
   pub data-by-index : (K : ℕ) → length offsets ≡ block-count K (h .fixed)
-      → read-data K end h bs ≡ pick (ltb (wrong K) (block-count K (h .fixed))) (refuse 9 (12 + 8 * wrong K)) (read-bodies end h bs)
+      → read-data K end h bs ≡ pick (ltb (wrong K) (block-count K (h .fixed))) (offset-wrong (h .fixed) (wrong K)) (read-bodies end h bs)
   unfolding read-data
   data-by-index K n =
       let e : 0 + length offsets ≡ block-count K (h .fixed) = omega arith in
-      rw e at (offsets-by-index 0 offsets (starts-of K (h .fixed) (h .arrays)) (read-bodies end h bs) (n ∙ sym (starts-count K _ (h .fixed) lengths)))
+      rw e at (offsets-by-index (h .fixed) 0 offsets (starts-of K (h .fixed) (h .arrays)) (read-bodies end h bs) (n ∙ sym (starts-count K _ (h .fixed) lengths)))
 
   -- 9: the records do not end where their bytes do
-  pub data-amiss : (sum lengths ≡ length bs → ⊥) → read-bodies end h bs ≡ refuse 9 end
+  pub data-amiss : (sum lengths ≡ length bs → ⊥) → read-bodies end h bs ≡ refuse-of (no-variant (h .fixed .variants)) 9 end
   unfolding read-bodies
   data-amiss n = simp (bodies-amiss end lengths bs n)
 
@@ -148,13 +152,13 @@ module _ (K : ℕ) (bs : List ℕ) (a : Arrays) (h : Passed K bs a) where
   -- 9: by the first offset that is wrong
   pub refusal-9-offset : after-types K bs a
       ≡ pick (ltb (wrong-offset 0 (a .offsets) (starts-of K (fixed-at bs) a)) (block-count K (fixed-at bs)))
-      (refuse 9 (12 + 8 * wrong-offset 0 (a .offsets) (starts-of K (fixed-at bs) a))) (after-offsets K bs a)
+      (offset-wrong (fixed-at bs) (wrong-offset 0 (a .offsets) (starts-of K (fixed-at bs) a))) (after-offsets K bs a)
   unfolding after-types after-offsets
   refusal-9-offset = data-by-index (length bs) (header-with (fixed-at bs) a) (drop (first-record K (fixed-at bs)) bs) K (h .offsets .0)
 
   -- 9: the records do not end at the file's end
   pub refusal-9-end : first-record K (fixed-at bs) ≤ length bs → (first-record K (fixed-at bs) + sum (a .columns .lengths) ≡ length bs → ⊥)
-      → after-offsets K bs a ≡ refuse 9 (length bs)
+      → after-offsets K bs a ≡ refuse-of (no-variant (fixed-at bs .variants)) 9 (length bs)
   unfolding after-offsets
   refusal-9-end l n =
       data-amiss (length bs) (header-with (fixed-at bs) a) (drop (first-record K (fixed-at bs)) bs)

@@ -13,7 +13,7 @@ use lib.Dec.{eqb}
 use native.Mathlib.Omega.{arith}
 use native.Mathlib.Decide.{ℕ-discrete}
 use borrow.Author.Tests.{ne-eqb}
-use Rattle.format.specs.Base.{pick, Bytes, Out, ok, refuse, map-out, refused}
+use Rattle.format.specs.Base.{pick, Bytes, Out, ok, refuse, map-out, refused, refusal}
 use Rattle.format.specs.Packed.{Bits, one, two, four, eight, limit, more, packed, packed-size, read-packed-after, read-packed}
 use Rattle.format.proofs.Rules.{Holds, by-test, split, below-drop}
 use Rattle.format.proofs.PackedLaws.{ArePacked, packed-as-written, packed-length, limit-fills}
@@ -56,12 +56,12 @@ after-refused end b m (suc room) rest (suc n) bs h =
 
 abbrev RefusedAt : {A : Type 0} → ℕ → Out A → Type 0
 RefusedAt here (ok a left) = Unit {0}
-RefusedAt here (refused why) = why .place ≡ here
+RefusedAt here (refused why) = why ≡ refusal (why .number) here
 
 -- a use of the result moves no place
 at-map : {A B : Type 0} (here there : ℕ) (f : A → B) (m : Out A) → here ≡ there → RefusedAt here m → RefusedAt there (map-out f m)
 at-map here there f (ok a left) e h = tt
-at-map here there f (refused why) e h = h ∙ e
+at-map here there f (refused why) e h = h ∙ ap (refusal (why .number)) e
 
 -- a number more than fill their bytes takes one byte more
 byte-more : (m n : ℕ) → (suc n + (m - 0)) / suc m ≡ (n + (m - m)) / suc m + 1
@@ -76,7 +76,7 @@ after-place : (end b m room rest n : ℕ) (bs : List ℕ) → room ≤ m → n �
 unfolding read-packed-after
 after-place end b m room rest zero bs l h =
     let e : (0 + (m - room)) / suc m ≡ 0 = div-eq-of-lt (omega arith) in
-    rw e (by-test (RefusedAt (end - suc (length bs - 0))) (eqb rest 0) (λ t. tt) (λ t. omega arith))
+    rw e (by-test (RefusedAt (end - suc (length bs - 0))) (eqb rest 0) (λ t. tt) (λ t. ap (refusal 18) (omega arith)))
 after-place end b m zero rest (suc n) [] l h = absurd (omega (arith, mul-zero (suc m)))
 after-place end b m zero rest (suc n) (x ∷ bs) l h =
     at-map _ _ _ (read-packed-after end b m m (x / b) n bs) (rw (byte-more m n) (omega arith))
@@ -176,10 +176,10 @@ unused-is bits (suc i) bs y h =
 
 -- ---- an array whose bytes are there
 
--- a refusal by its number and place
+-- a refusal by its number and place; it names no variant
 fails : {A : Type 0} (number place : ℕ) (m : Out A) → is-refused m ≡ true → Refuses (Exactly number) m → RefusedAt place m → m ≡ refuse number place
 fails number place (ok a left) e o p = absurd (let z : _≡_ {A = ℕ} 0 1 = cc in omega arith)
-fails number place (refused why) e o p = ap₂ refuse o p
+fails number place (refused why) e o p = ap refused (p ∙ ap (λ (n : ℕ). refusal n place) o)
 
 -- what is not refused is read
 works : {A : Type 0} (P : A → List ℕ → Type 0) (m : Out A) → is-refused m ≡ false → Holds P m → (a : A) × (left : List ℕ) × (m ≡ ok a left) × P a left

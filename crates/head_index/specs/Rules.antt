@@ -10,7 +10,7 @@ use Rattle.format.specs.declared.FoundInBlock.{FoundInBlock}
 use Rattle.format.specs.declared.FoundInBlock.the-variants as in-block-as
 use Rattle.format.specs.declared.FoundInFile.{FoundInFile}
 use Rattle.format.specs.declared.FoundInFile.the-variants as in-file-as
-use Rattle.format.specs.Base.{pick, Out, ok, refuse, bind, need}
+use Rattle.format.specs.Base.{pick, Out, ok, refused, refusal, named, bind, need, refuse-of}
 use Rattle.format.specs.Packed.{one, packed-size}
 use Rattle.format.specs.Variant.{next-variant, block-variant, in-block, in-file}
 use Rattle.format.specs.Layout.{Fixed, unblocked, Form, form-of, flag-count, Arrays, block-count, block-sizes, block-size, first-record}
@@ -59,7 +59,7 @@ found-or K block in-block-as.Nowhere later = later
 
 -- refused at the type that was found; else what comes next
 abbrev pub refuse-found : {A : Type 0} → ℕ → Fixed → FoundInFile → Out A → Out A
-refuse-found K f (in-file-as.At v) next = refuse 8 (type-place K f v)
+refuse-found K f (in-file-as.At v) next = refuse-of v 8 (type-place K f v)
 refuse-found K f in-file-as.Nowhere next = next
 
 -- ---- 9: "block offset wrong, or records don't end at the file's end"

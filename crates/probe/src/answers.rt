@@ -1,101 +1,29 @@
-// Each call's line: the refusal number, the place, the call's own numbers, then each lent buffer. A line is gathered where its call is made, so that
-// no output buffer goes through every function, and leaves in one write if it is not long.
+// Each call and its line: the refusal number, the place, the call's own numbers, then each lent buffer, last the variant. A line is gathered where its
+// call is made, so that no output buffer goes through every function, and leaves in one write if it is not long.
 use crate::cases::Case;
 use crate::lent::MOST_LENT;
 use crate::lent::least;
 use crate::lent::space;
+use crate::lines::Line;
+use crate::lines::buffer;
+use crate::lines::category;
+use crate::lines::count;
+use crate::lines::done;
+use crate::lines::end;
+use crate::lines::header;
+use crate::lines::next;
+use crate::lines::none;
+use crate::lines::pair;
+use crate::lines::variant;
 use call_rows::Rows;
 use call_rows::RowsReply;
 use format::FileVariant;
-use format::HeaderReply;
-use format::LookupReply;
-use format::Refusal;
 use format::Reply;
-use format::WriteReply;
-use format::refusal_at;
+use format::refusal_of;
 
 const OUTPUT_FILL: u8 = 0xa5;
 
 const WORK_FILL: u8 = 0x5a;
-
-// A number after a space.
-fn next(out: &mut [u8], at: usize, n: usize) -> usize {
-    let filled = text::put(out, at, b' ');
-    text::put_decimal(out, filled, n)
-}
-
-// 01, Replies: "An accepted call has refusal 0 and place 0."
-fn none() -> Refusal {
-    refusal_at(0, 0)
-}
-
-// A refusal's number and its place.
-fn pair(out: &mut [u8], at: usize, why: Refusal) -> usize {
-    let filled = text::put_decimal(out, at, why.number as usize);
-    next(out, filled, why.place)
-}
-
-// A buffer's letter and its bytes.
-fn buffer(out: &mut [u8], at: usize, letter: u8, bytes: &[u8]) -> usize {
-    let a = text::put(out, at, b' ');
-    let b = text::put(out, a, letter);
-    let c = text::put(out, b, b' ');
-    text::put_hex(out, c, bytes)
-}
-
-fn end(out: &mut [u8], at: usize) {
-    let filled = text::put(out, at, b'\n');
-    text::flush(out, filled);
-}
-
-fn header(out: &mut [u8], r: HeaderReply) -> usize {
-    match r {
-        HeaderReply::Accepted(fields) => {
-            let a = pair(out, 0, none());
-            let b = next(out, a, fields.mode as usize);
-            let c = next(out, b, fields.variants);
-            let d = next(out, c, fields.samples);
-            next(out, d, fields.form as usize)
-        }
-        HeaderReply::Refused(why) => {
-            let a = pair(out, 0, why);
-            text::put_all(out, a, b" 0 0 0 0")
-        }
-    }
-}
-
-fn done(out: &mut [u8], at: usize, r: Reply) -> usize {
-    match r {
-        Reply::Accepted => pair(out, at, none()),
-        Reply::Refused(why) => pair(out, at, why),
-    }
-}
-
-fn category(out: &mut [u8], r: LookupReply) -> usize {
-    match r {
-        LookupReply::Category(c) => {
-            let a = pair(out, 0, none());
-            next(out, a, c as usize)
-        }
-        LookupReply::Refused(why) => {
-            let a = pair(out, 0, why);
-            next(out, a, 0)
-        }
-    }
-}
-
-fn count(out: &mut [u8], r: WriteReply) -> usize {
-    match r {
-        WriteReply::Count(n) => {
-            let a = pair(out, 0, none());
-            next(out, a, n)
-        }
-        WriteReply::Refused(why) => {
-            let a = pair(out, 0, why);
-            next(out, a, 0)
-        }
-    }
-}
 
 fn header_checked(file: &[u8]) {
     let mut out = [0u8; 4096];
@@ -136,9 +64,10 @@ fn looked_up(file: &[u8], v: FileVariant, sample: usize, work: &mut [u8]) {
 fn viewed(file: &[u8], v: FileVariant) {
     let mut number: u8 = 0;
     let mut place: usize = 0;
-    let part = pgen::view(file, v, &mut number, &mut place);
+    let mut named: usize = 0;
+    let part = pgen::view(file, v, &mut number, &mut place, &mut named);
     let mut out = [0u8; 4096];
-    let a = pair(&mut out, 0, refusal_at(number, place));
+    let a = pair(&mut out, 0, refusal_of(FileVariant(named), number, place));
     let b = next(&mut out, a, part.len());
     let c = buffer(&mut out, b, b'p', part);
     end(&mut out, c);
@@ -182,9 +111,15 @@ fn flipped(file: &mut [u8], set: &[u8], work: &mut [u8]) {
 }
 
 // A step's letter and its reply.
-fn stepped(out: &mut [u8], at: usize, r: Reply) -> usize {
+fn stepped(out: &mut [u8], at: usize, r: Reply) -> Line {
     let filled = text::put_all(out, at, b" s ");
     done(out, filled, r)
+}
+
+// The output after a step, and the variant that the step's reply names.
+fn shown(out: &mut [u8], told: Line, output: &[u8]) -> usize {
+    let a = buffer(out, told, b'o', output);
+    variant(out, a)
 }
 
 // So many steps, each with the output after it.
@@ -205,13 +140,13 @@ fn steps(
         rows = moved.rows;
         let reply = moved.reply;
         let told = stepped(out, filled, reply);
-        filled = buffer(out, told, b'o', output);
+        filled = shown(out, told, output);
         left = left - 1;
     }
     filled
 }
 
-// The start's reply and, if it was accepted, the steps from there.
+// The start's reply and, if it was accepted, the steps from there. The line's own variant stays the start's.
 fn started(
     out: &mut [u8],
     r: RowsReply,
@@ -219,11 +154,13 @@ fn started(
     file: &[u8],
     output: &mut [u8],
     work: &mut [u8],
-) -> usize {
+) -> Line {
     match r {
         RowsReply::Started(first) => {
             let a = pair(out, 0, none());
-            steps(out, a, first, count, file, output, work)
+            let filled = steps(out, a.filled, first, count, file, output, work);
+            let named = a.named;
+            Line { filled, named }
         }
         RowsReply::Refused(why) => pair(out, 0, why),
     }

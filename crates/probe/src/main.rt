@@ -3,6 +3,7 @@
 mod answers;
 mod cases;
 mod lent;
+mod lines;
 
 use answers::run;
 use cases::Case;

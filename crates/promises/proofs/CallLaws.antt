@@ -10,7 +10,7 @@ use lib.Dec.{eqb, leb}
 use native.Mathlib.Omega.{arith}
 use borrow.Author.Tests.{leb-true, le-leb}
 use Rattle.format.specs.declared.FileVariant.{FileVariant}
-use Rattle.format.specs.Base.{Bytes, Out, ok, refused, bind, map-out, need}
+use Rattle.format.specs.Base.{Bytes, Out, ok, refused, bind, map-out, need, need-of}
 use Rattle.format.specs.Body.{Body, body-bytes}
 use Rattle.format.specs.Limits.{most-samples}
 use Rattle.format.specs.Layout.{Layout, fixed-of, first-record}
@@ -20,6 +20,7 @@ use Rattle.format.specs.Writer.{write-record, write-phased}
 use Rattle.format.specs.Reply.{refusal-of, given, no-fields, header-call, check-out, check-call, read-out, read-call, lookup-out, lookup-call}
 use Rattle.format.specs.Body.{body-phases}
 use Rattle.format.specs.Reply.{out-as, phases-call, view-out, view-call, write-call, write-phased-call, flip-out, flip-call}
+use Rattle.format.specs.Variant.{file-variant, no-variant}
 use Rattle.format.proofs.Refuses.{Refuses, Among, every, not-none}
 use Rattle.format.proofs.CallRefusals.{check-numbers, check-refusals}
 use Rattle.format.proofs.Rules.{Holds}
@@ -108,10 +109,14 @@ accepted class t (ok a left) h e = (a, left, refl)
 accepted class t (refused why) h e = absurd (not-none class t (rw e at h))
 
 -- what was accepted has passed its test
+pub passed-of : {A : Type 0} (v : FileVariant) (t : Bool) (number place : ℕ) (next : Out A) (a : A) (left : List ℕ)
+    → need-of v t number place next ≡ ok a left → (t ≡ true) × (next ≡ ok a left)
+passed-of v true number place next a left e = (refl, e)
+passed-of v false number place next a left e = let z : _≡_ {A = ℕ} 0 1 = cc in absurd (omega arith)
+
 pub passed : {A : Type 0} (t : Bool) (number place : ℕ) (next : Out A) (a : A) (left : List ℕ) → need t number place next ≡ ok a left
     → (t ≡ true) × (next ≡ ok a left)
-passed true number place next a left e = (refl, e)
-passed false number place next a left e = let z : _≡_ {A = ℕ} 0 1 = cc in absurd (omega arith)
+passed t number place next a left e = passed-of (file-variant 0) t number place next a left e
 
 -- what was accepted is what was read
 pub itself : {A : Type 0} (m : Out A) → Holds (λ (a : A) (left : List ℕ). m ≡ ok a left) m
@@ -133,12 +138,15 @@ checked-file K file work l left e = header (read-layout K file) e
     records m (ok b r) t q = (file-of m b, r, refl, leb-true (m .samples) (length work) t)
     records m (refused why) t q = let z : _≡_ {A = ℕ} 0 1 = cc in absurd (omega arith)
 
-    sized : (m : Layout) (t : Bool) → leb (m .samples) (length work) ≡ t → need t 10 0 (map-out (λ (b : List Body). m) (read-all K m)) ≡ ok l left
+    sized : (m : Layout) (t : Bool) → leb (m .samples) (length work) ≡ t
+        → need-of (no-variant (length (m .bodies))) t 10 0 (map-out (λ (b : List Body). m) (read-all K m)) ≡ ok l left
         → (f : File) × (rest : List ℕ) × (map-out (file-of m) (read-all K m) ≡ ok f rest) × (f .samples ≤ length work)
     sized m true t q = records m (read-all K m) t q
     sized m false t q = let z : _≡_ {A = ℕ} 0 1 = cc in absurd (omega arith)
 
-    header : (out : Out Layout) → bind out (λ m r. need (leb (m .samples) (length work)) 10 0 (map-out (λ (b : List Body). m) (read-all K m))) ≡ ok l left
+    header : (out : Out Layout)
+        → bind out (λ m r.
+        need-of (no-variant (length (m .bodies))) (leb (m .samples) (length work)) 10 0 (map-out (λ (b : List Body). m) (read-all K m))) ≡ ok l left
         → (f : File) × (rest : List ℕ) × (bind out (λ m r. map-out (file-of m) (read-all K m)) ≡ ok f rest) × (f .samples ≤ length work)
     header (ok m r) q = sized m (leb (m .samples) (length work)) refl q
     header (refused why) q = let z : _≡_ {A = ℕ} 0 1 = cc in absurd (omega arith)
@@ -153,7 +161,7 @@ passes K f work p h m =
     simp (
       layout-read-back K l p (h .layout),
       le-leb N (length work) m,
-      records-read-back N (first-record K (fixed-of l)) [] (f .bodies) (from-1-to-most most-samples N (h .layout .fixed .samples)) (h .bodies),
+      records-read-back N (file-variant 0) (first-record K (fixed-of l)) [] (f .bodies) (from-1-to-most most-samples N (h .layout .fixed .samples)) (h .bodies),
     )
 
 -- the call accepts a file exactly when it is the bytes of a file that obeys, and the work area holds its samples

@@ -18,7 +18,7 @@ use Rattle.format.specs.Layout.{Layout, layout-bytes, record-start, LayoutObeys
 use Rattle.format.specs.Header.{read-layout}
 use Rattle.format.specs.File.{File, layout-of-file, file-bytes, rows, phase-rows, Obeys, read-variant, variant-as}
 use Rattle.format.specs.Reply.{refusal-of, given, header-call, need-variant, read-as, read-call, phases-call, lookup-call, view-out, view-call}
-use Rattle.format.proofs.Rules.{Holds, by-test, by-need, by-bind}
+use Rattle.format.proofs.Rules.{Holds, by-test, by-need, by-bind, by-need-of}
 use Rattle.format.proofs.HeaderLaws.{layout-read-back, IsLayout, layout-as-written}
 use Rattle.format.proofs.HeaderRefusals.{header-refusals}
 use Rattle.format.proofs.CallRefusals.{view-numbers, view-refusals}
@@ -53,7 +53,7 @@ view-exactly K file v p y =
           let a = accepted view-numbers refl (view-out K file v) (view-refusals K file v) e in
           subst (Holds Q) (a .2)
           (by-bind (IsLayout K file) Q (read-layout K file) _ (layout-as-written K file p y) (λ l left w.
-          by-need Q (ltb (v .0) (length (l .bodies))) 11 0 _ (λ t. (l, w .obeys, w .written, ltb-true (v .0) (length (l .bodies)) t)))),
+          by-need-of Q _ (ltb (v .0) (length (l .bodies))) 11 0 _ (λ t. (l, w .obeys, w .written, ltb-true (v .0) (length (l .bodies)) t)))),
       λ h. ap (λ (out : Out Layout). refusal-of out .number) (ap (λ (bs : List ℕ). view-out K bs v) (h .2) ∙ view-passes K (h .0) v p (h .1) (h .3)),
     )
 

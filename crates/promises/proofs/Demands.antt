@@ -29,7 +29,8 @@ use Rattle.call_rows.specs.Calls.{Left, start-rows-call, next-row-call}
 use Rattle.promises.proofs.Programs.{Meets, Says}
 use Rattle.promises.proofs.DemandLaws.{OneOf, Numbered}
 use Rattle.promises.proofs.PhasedDemands.{Phased-1, Phased-2, Phased-3}
-use Rattle.promises.proofs.CallPlaces.{PlaceIs, SomeRecord, RecordOf}
+use Rattle.promises.proofs.RecordFaults.{InRecord, RecordOf}
+use Rattle.promises.proofs.CallPlaces.{PlaceIs, Never, AskedFor}
 use Rattle.promises.proofs.WritePlaces.{WritePlaceIs}
 use Rattle.promises.proofs.WorkLeft.{WorkLeft}
 use Rattle.promises.proofs.ReadExactly.{MayRead, MayLookUp}
@@ -79,17 +80,18 @@ start-rows file work = start-rows-call file work
 abbrev next-row : Rows → List ℕ → List ℕ → List ℕ → Left
 next-row state file output work = next-row-call state file output work
 
--- "Every input gets a reply; no caller has to check first. A refusal has a number and a place, and leaves every output and the file untouched."
+-- "Every input gets a reply; no caller has to check first. A refusal has a number and a place, names the variant at fault, and leaves every output and the
+-- file untouched."
 pub record Demand-1 (M : Type 1) : Type 2 where
   -- Each call, as a program, does nothing undefined and returns, whatever it is lent.
   pub every-input : Meets M
   -- What it replies and leaves in all that it was lent is what its definition gives.
   pub as-defined : Says
-  -- An accepted reply has number 0 and place 0, and a refused one a number, never 0, that the call can give: header check 1 to 9;
+  -- An accepted reply has number 0, place 0 and variant 0, and a refused one a number, never 0, that the call can give: header check 1 to 9;
   pub header-numbers-are : (file : List ℕ) → Numbered header-numbers (header file .verdict)
-  -- whole-file check 1 to 10 and 12 to 18;
+  -- whole-file check 1 to 10, 12 to 18 and 23 to 25;
   pub check-numbers-are : (file work : List ℕ) → Bytes file → Numbered (header-numbers ++ (10 ∷ record-numbers)) (check file work .reply .verdict)
-  -- read and lookup 1 to 18;
+  -- read and lookup 1 to 18 and 23 to 25;
   pub read-numbers-are : (file : List ℕ) (v : FileVariant) (output work : List ℕ) → Bytes file
       → Numbered (header-numbers ++ (10 ∷ 11 ∷ record-numbers)) (read file v output work .verdict)
   pub lookup-numbers-are : (file : List ℕ) (v : FileVariant) (sample : ℕ) (work : List ℕ) → Bytes file
@@ -99,26 +101,28 @@ pub record Demand-1 (M : Type 1) : Type 2 where
       → Numbered writer-numbers (write categories kind code anchor output .verdict)
   -- flip those of the whole-file check, and 21;
   pub flip-numbers-are : (file set work : List ℕ) → Bytes file → Numbered (header-numbers ++ (10 ∷ 21 ∷ record-numbers)) (flip file set work .verdict)
-  -- a start of rows 1 to 10; a step 4 and 8 to 18, from any state, also one that no start gave.
+  -- a start of rows 1 to 10; a step 4, 8 to 18 and 23 to 25, from any state, also one that no start gave.
   pub start-rows-numbers-are : (file work : List ℕ) → Numbered (header-numbers ++ (10 ∷ [])) (verdict (start-rows file work))
   pub next-row-numbers-are : (state : Rows) (file output work : List ℕ) → Bytes file
       → Numbered (4 ∷ 8 ∷ 9 ∷ 10 ∷ 11 ∷ record-numbers) (next-row state file output work .verdict)
   -- A view answers by its number alone: 0, or 1 to 9 or 11.
   pub view-numbers-are : (file : List ℕ) (v : FileVariant) → OneOf (header-numbers ++ (11 ∷ [])) (view file v .refusal)
-  -- The place: 1 to 9 within the file or at its length; 10, 11 and 21 at 0; 12 at the end of the record at fault, 13 to 18 at one of its bytes. The record
-  -- at fault is one that is refused so over some anchor's categories; of a read and a lookup it is the variant's own, or its anchor's.
-  pub header-place-is : (file : List ℕ) → Bytes file → PlaceIs K file (λ (l : Layout) (why : Refusal). ⊥) (header file .verdict .refusal)
-  pub check-place-is : (file work : List ℕ) → Bytes file → PlaceIs K file (SomeRecord K) (check file work .reply .verdict .refusal)
+  -- The place: 1 to 9 within the file or at its length; 10, 11 and 21 at 0; 12 at the end of the record at fault, 13 to 18 and 23 to 25 at one of its
+  -- bytes. The variant: 0 in 1 to 4; M in 5, 6, 7, 9, 10 and 21; in 8 the first whose type is not allowed, and the place is the byte that holds it; in 11
+  -- the one that was asked for, or M if it is not below M; in 12 to 18 and 23 to 25 the one whose record is at fault: it is below M, the place lies in its
+  -- record, and that record is refused so over some anchor's categories; of a read and a lookup it is the variant that was asked for, or its anchor.
+  pub header-place-is : (file : List ℕ) → Bytes file → PlaceIs K file Never Never (header file .verdict .refusal)
+  pub check-place-is : (file work : List ℕ) → Bytes file → PlaceIs K file Never (InRecord K) (check file work .reply .verdict .refusal)
   pub read-place-is : (file : List ℕ) (v : FileVariant) (output work : List ℕ) → Bytes file
-      → PlaceIs K file (RecordOf K v) (read file v output work .verdict .refusal)
+      → PlaceIs K file (AskedFor v) (RecordOf K v) (read file v output work .verdict .refusal)
   pub lookup-place-is : (file : List ℕ) (v : FileVariant) (sample : ℕ) (work : List ℕ) → Bytes file
-      → PlaceIs K file (RecordOf K v) (lookup file v sample work .verdict .refusal)
-  pub view-place-is : (file : List ℕ) (v : FileVariant) → Bytes file → PlaceIs K file (λ (l : Layout) (why : Refusal). ⊥) (view file v .refusal)
-  pub flip-place-is : (file set work : List ℕ) → Bytes file → PlaceIs K file (SomeRecord K) (flip file set work .verdict .refusal)
+      → PlaceIs K file (AskedFor v) (RecordOf K v) (lookup file v sample work .verdict .refusal)
+  pub view-place-is : (file : List ℕ) (v : FileVariant) → Bytes file → PlaceIs K file (AskedFor v) Never (view file v .refusal)
+  pub flip-place-is : (file set work : List ℕ) → Bytes file → PlaceIs K file Never (InRecord K) (flip file set work .verdict .refusal)
   pub start-rows-place-is : (file work : List ℕ) → Bytes file
-      → PlaceIs K file (λ (l : Layout) (why : Refusal). ⊥) (verdict (start-rows file work) .refusal)
-  -- (A step from a start has the place that a read has, by demand 2. Where no start gave the state nothing is said of the place.)
-  -- The writer's: 20 at the index of the first category above 3, in the categories or else in the anchor; every other at 0.
+      → PlaceIs K file Never Never (verdict (start-rows file work) .refusal)
+  -- (A step from a start has the place and the variant that a read has, by demand 2. Where no start gave the state nothing is said of them.)
+  -- The writer's: 20 at the index of the first category above 3, in the categories or else in the anchor; every other at 0. Each names 0.
   pub write-place-is : (categories : List ℕ) (kind code : ℕ) (anchor output : List ℕ)
       → WritePlaceIs categories anchor (write categories kind code anchor output .verdict .refusal)
   -- A refused read, a refused step and a refused write leave the output as it was, a refused flip the file.

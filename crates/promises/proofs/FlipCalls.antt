@@ -10,10 +10,10 @@ use lib.Dec.{ltb, leb}
 use native.Mathlib.Omega.{arith}
 use borrow.Author.Tests.{ltb-true}
 use Rattle.format.specs.declared.FileVariant.{FileVariant}
-use Rattle.format.specs.Base.{Bytes, Out, ok, bind, need}
+use Rattle.format.specs.Base.{Bytes, Out, ok, bind, need, need-of}
 use Rattle.format.specs.Category.{just-one}
 use Rattle.format.specs.Body.{Body}
-use Rattle.format.specs.Variant.{file-variant}
+use Rattle.format.specs.Variant.{file-variant, no-variant}
 use Rattle.format.specs.Layout.{Layout}
 use Rattle.format.specs.File.{File, layout-of-file, file-bytes, Obeys, variant-as, flip-file, pgen-file, flip-bytes}
 use Rattle.format.specs.Reply.{Read, verdict, refusal-of, given, work-after, samples-of, holds-row, need-variant, member, check-out, check-call}
@@ -48,14 +48,14 @@ reading N output work out = record {
   work = work-after N (refusal-of out) work;
 }
 
--- the tests of a read: of the buffers' sizes and of the variant
-abbrev tested : Bool → Bool → List ℕ → Out (List ℕ)
-tested sized there row = need sized 10 0 (need there 11 0 (ok row []))
+-- the tests of a read, of a file of M variants: of the buffers' sizes and of the variant
+abbrev tested : ℕ → Bool → Bool → List ℕ → Out (List ℕ)
+tested M sized there row = need-of (no-variant M) sized 10 0 (need-of (no-variant M) there 11 0 (ok row []))
 
 compared : (exchange : Bool → List ℕ → List ℕ) → ((b : Bool) (row : List ℕ) → length (exchange b row) ≡ length row)
-    → (b sized there : Bool) (N : ℕ) (row output work : List ℕ) → (there ≡ true → length row ≡ N)
-    → ReadsExchanged exchange b N (reading N output work (tested sized there row)) (reading N output work (tested sized there (exchange b row)))
-compared exchange as-long b true true N row output work n =
+    → (b sized there : Bool) (M N : ℕ) (row output work : List ℕ) → (there ≡ true → length row ≡ N)
+    → ReadsExchanged exchange b N (reading N output work (tested M sized there row)) (reading N output work (tested M sized there (exchange b row)))
+compared exchange as-long b true true M N row output work n =
     let turned : length (exchange b row) ≡ N = as-long b row ∙ n refl in
     record {
       same-verdict = refl;
@@ -64,9 +64,9 @@ compared exchange as-long b true true N row output work n =
       rest-same = drop-at (exchange b row) (drop N output) N turned ∙ sym (drop-at row (drop N output) N (n refl));
       refused-alike = λ t. never-both refl t;
     }
-compared exchange as-long b true false N row output work n =
+compared exchange as-long b true false M N row output work n =
     record { same-verdict = refl; same-work = refl; exchanged = λ t. never-both t refl; rest-same = refl; refused-alike = λ t. refl }
-compared exchange as-long b false there N row output work n =
+compared exchange as-long b false there M N row output work n =
     record { same-verdict = refl; same-work = refl; exchanged = λ t. never-both t refl; rest-same = refl; refused-alike = λ t. refl }
 
 module _ (K : ℕ) (p : zero < K) where
@@ -116,17 +116,20 @@ module _ (K : ℕ) (p : zero < K) where
   module _ (what : ℕ → List ℕ → Body → List ℕ) (exchange : Bool → List ℕ → List ℕ) (kept : IsReading K what exchange) where
     read-of-file : (f : File) (v : FileVariant) (output work : List ℕ) → Obeys K f
         → out-as what K (file-bytes K f) v output work
-        ≡ tested (leb (f .samples) (length output) && leb (f .samples) (length work)) (ltb (v .0) (length (f .bodies))) (row-as what f v)
+        ≡ tested (length (f .bodies)) (leb (f .samples) (length output) && leb (f .samples) (length work)) (ltb (v .0) (length (f .bodies))) (row-as what f v)
     unfolding file-bytes
     read-of-file f v output work h =
         let l : Layout = layout-of-file f in
+        let sized : Bool = leb (f .samples) (length output) && leb (f .samples) (length work) in
         ap (λ (out : Out Layout). bind out (λ m left.
-        need (holds-row output m && holds-row work m) 10 0 (need-variant v m (variant-as what K m v)))) (layout-read-back K l p (h .layout))
-        ∙ ap (need (leb (f .samples) (length output) && leb (f .samples) (length work)) 10 0)
-        (ap (λ (M : ℕ). need (ltb (v .0) M) 11 0 (variant-as what K l v)) (counted f) ∙ go (ltb (v .0) (length (f .bodies))) refl)
+        need-of (no-variant (length (m .bodies))) (holds-row output m && holds-row work m) 10 0 (need-variant v m (variant-as what K m v))))
+        (layout-read-back K l p (h .layout))
+        ∙ ap (λ (M : ℕ). need-of (no-variant M) sized 10 0 (need-of (no-variant M) (ltb (v .0) M) 11 0 (variant-as what K l v))) (counted f)
+        ∙ ap (need-of (no-variant (length (f .bodies))) sized 10 0) (go (ltb (v .0) (length (f .bodies))) refl)
       where
         go : (b : Bool) → ltb (v .0) (length (f .bodies)) ≡ b
-            → need b 11 0 (variant-as what K (layout-of-file f) v) ≡ need b 11 0 (ok (row-as what f v) [])
+            → need-of (no-variant (length (f .bodies))) b 11 0 (variant-as what K (layout-of-file f) v)
+            ≡ need-of (no-variant (length (f .bodies))) b 11 0 (ok (row-as what f v) [])
         go true t = kept .reads f v h (ltb-true (v .0) (length (f .bodies)) t)
         go false t = refl
 
@@ -214,18 +217,19 @@ module _ (K : ℕ) (p : zero < K) where
       abbrev there : Bool
       there = ltb (v .0) (length (f .bodies))
 
-      before-is : read-as what K file v output work₂ ≡ reading (f .samples) output work₂ (tested sized there (row-as what f v))
+      before-is : read-as what K file v output work₂ ≡ reading (f .samples) output work₂ (tested (length (f .bodies)) sized there (row-as what f v))
       before-is =
           ap₂ (λ (N : ℕ) (out : Out (List ℕ)). reading N output work₂ out) (samples-are file f (first .1 .obeys) (first .1 .written))
           (ap (λ (bs : List ℕ). out-as what K bs v output work₂) (first .1 .written) ∙ read-of-file what exchange kept f v output work₂ (first .1 .obeys))
 
       turned : (b : Bool) → there ≡ b
-          → need b 11 0 (ok (row-as what (flip-file (member set) f) v) []) ≡ need b 11 0 (ok (exchange (member set v) (row-as what f v)) [])
+          → need-of (no-variant (length (f .bodies))) b 11 0 (ok (row-as what (flip-file (member set) f) v) [])
+          ≡ need-of (no-variant (length (f .bodies))) b 11 0 (ok (exchange (member set v) (row-as what f v)) [])
       turned true t = ap (λ (r : List ℕ). ok r []) (kept .flips (member set) f v (first .1 .obeys) (ltb-true (v .0) (length (f .bodies)) t))
       turned false t = refl
 
       now-is : read-as what K (after file set work) v output work₂
-          ≡ reading (f .samples) output work₂ (tested sized there (exchange (member set v) (row-as what f v)))
+          ≡ reading (f .samples) output work₂ (tested (length (f .bodies)) sized there (exchange (member set v) (row-as what f v)))
       now-is =
           let g : File = flip-file (member set) f in
           let h : Obeys K g = flip-obeys K (member set) f (first .1 .obeys) in
@@ -233,8 +237,8 @@ module _ (K : ℕ) (p : zero < K) where
           ap₂ (λ (N : ℕ) (out : Out (List ℕ)). reading N output work₂ out) (samples-are (after file set work) g h w)
           (ap (λ (bs : List ℕ). out-as what K bs v output work₂) w
           ∙ read-of-file what exchange kept g v output work₂ h
-          ∙ ap (λ (M : ℕ). tested sized (ltb (v .0) M) (row-as what g v)) (flip-count (member set) (file-variant 0) false (f .bodies))
-          ∙ ap (need sized 10 0) (turned there refl))
+          ∙ ap (λ (M : ℕ). tested M sized (ltb (v .0) M) (row-as what g v)) (flip-count (member set) (file-variant 0) false (f .bodies))
+          ∙ ap (need-of (no-variant (length (f .bodies))) sized 10 0) (turned there refl))
 
       -- DEMAND 3: "members read with categories 0 and 2 exchanged", phases 1 and 2 too, whatever else a read gives as before
       pub flip-call-reads : ReadsExchanged exchange (member set v) (samples-of K file)
@@ -245,13 +249,13 @@ module _ (K : ℕ) (p : zero < K) where
           subst (λ (N : ℕ). ReadsExchanged exchange (member set v) N (read-as what K file v output work₂) now) (sym N-is)
           (subst (λ (b : Read). ReadsExchanged exchange (member set v) (f .samples) b now) (sym before-is)
           (subst (ReadsExchanged exchange (member set v) (f .samples) _) (sym now-is)
-          (compared exchange (kept .as-long) (member set v) sized there (f .samples) (row-as what f v) output work₂ (λ t.
+          (compared exchange (kept .as-long) (member set v) sized there (length (f .bodies)) (f .samples) (row-as what f v) output work₂ (λ t.
           row-counted what exchange kept file f v y (first .1 .obeys) (first .1 .written) (ltb-true (v .0) (length (f .bodies)) t)))))
 
       -- "all others as before"
       pub flip-call-others : member set v ≡ false → read-as what K (after file set work) v output work₂ ≡ read-as what K file v output work₂
       flip-call-others n =
           now-is
-          ∙ ap (λ (r : List ℕ). reading (f .samples) output work₂ (tested sized there r))
+          ∙ ap (λ (r : List ℕ). reading (f .samples) output work₂ (tested (length (f .bodies)) sized there r))
           (ap (λ (b : Bool). exchange b (row-as what f v)) n ∙ kept .none (row-as what f v))
           ∙ sym before-is

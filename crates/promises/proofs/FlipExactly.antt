@@ -11,20 +11,20 @@ use lib.Dec.{eqb, leb}
 use native.Mathlib.Omega.{arith}
 use borrow.Author.Tests.{leb-true, eqb-true, le-leb, eq-eqb}
 use Rattle.format.specs.declared.FileVariant.{FileVariant}
-use Rattle.format.specs.Base.{Bytes, Out, ok, refused, map-out, need}
+use Rattle.format.specs.Base.{Bytes, Out, ok, refused, map-out, need, need-of}
 use Rattle.format.specs.Limits.{most-samples}
 use Rattle.format.specs.Body.{Body}
-use Rattle.format.specs.Variant.{file-variant}
+use Rattle.format.specs.Variant.{file-variant, no-variant}
 use Rattle.format.specs.Layout.{Layout, first-record, fixed-of}
 use Rattle.format.specs.Header.{read-layout}
 use Rattle.format.specs.File.{File, layout-of-file, file-bytes, Obeys, file-of, read-all, read-file}
 use Rattle.format.specs.Reply.{refusal-of, holds-row, holds-set, checked, member, past-last, flip-out, flip-call}
-use Rattle.format.proofs.Rules.{Holds, by-need, by-bind, by-map, both, never-both, split}
+use Rattle.format.proofs.Rules.{Holds, by-need, by-bind, by-map, both, never-both, split, by-need-of}
 use Rattle.format.proofs.OffsetsLaws.{from-1-to-most}
 use Rattle.format.proofs.HeaderLaws.{layout-read-back}
 use Rattle.format.proofs.FileLaws.{records-read-back, IsFile, file-as-written}
 use Rattle.format.proofs.CallRefusals.{flip-numbers, flip-refusals}
-use Rattle.promises.proofs.CallLaws.{accepted, passed, itself, counted}
+use Rattle.promises.proofs.CallLaws.{accepted, passed-of, itself, counted}
 
 -- ---- what a set is
 
@@ -94,14 +94,14 @@ unfolding read-all
 records-pass K f h =
     let l : Layout = layout-of-file f in
     ap (map-out (λ (bodies : List Body). l))
-    (records-read-back (f .samples) (first-record K (fixed-of l)) [] (f .bodies) (from-1-to-most most-samples (f .samples) (h .layout .fixed .samples))
+    (records-read-back (f .samples) (file-variant 0) (first-record K (fixed-of l)) [] (f .bodies) (from-1-to-most most-samples (f .samples) (h .layout .fixed .samples))
     (h .bodies))
 
 -- so of such a file a flip looks at the set and the work area
 flip-of-file : (K : ℕ) (f : File) (set work : List ℕ) → zero < K → Obeys K f
     → flip-out K (file-bytes K f) set work
-    ≡ need (eqb (length set) ((length (f .bodies) + 7) / 8) && leb (f .samples) (length work)) 10 0
-    (need (eqb (past-last (length (f .bodies)) set) 0) 21 0 (ok (layout-of-file f) []))
+    ≡ need-of (no-variant (length (f .bodies))) (eqb (length set) ((length (f .bodies) + 7) / 8) && leb (f .samples) (length work)) 10 0
+    (need-of (no-variant (length (f .bodies))) (eqb (past-last (length (f .bodies)) set) 0) 21 0 (ok (layout-of-file f) []))
 unfolding file-bytes
 flip-of-file K f set work p h =
     simp (layout-read-back K (layout-of-file f) p (h .layout), counted f, records-pass K f h)
@@ -113,8 +113,8 @@ unfolding read-file
 flip-whole K file set work p y =
     let Q : Layout → List ℕ → Type 0 = λ l left. (f : File) × Obeys K f × (file ≡ file-bytes K f) in
     by-bind (λ (l : Layout) (left : List ℕ). read-layout K file ≡ ok l left) Q (read-layout K file) _ (itself (read-layout K file)) (λ l left e.
-    by-need Q (holds-set set l && holds-row work l) 10 0 _ (λ t.
-    by-need Q (eqb (past-last (length (l .bodies)) set) 0) 21 0 (checked K l) (λ u.
+    by-need-of Q _ (holds-set set l && holds-row work l) 10 0 _ (λ t.
+    by-need-of Q _ (eqb (past-last (length (l .bodies)) set) 0) 21 0 (checked K l) (λ u.
     by-map (λ (bodies : List Body) (rest : List ℕ). read-all K l ≡ ok bodies rest) Q (read-all K l) (λ (bodies : List Body). l)
     (itself (read-all K l)) (λ bodies rest d.
     let w : IsFile K file (file-of l bodies) rest = subst (Holds (IsFile K file)) (read-is l left e bodies rest d) (file-as-written K file p y) in
@@ -142,11 +142,11 @@ module _ (K : ℕ) (file set work : List ℕ) (p : zero < K) (y : Bytes set) whe
           → MayFlip K file set work f
       tests f h w l left e =
           let M : ℕ = length (f .bodies) in
-          let sizes = passed (eqb (length set) ((M + 7) / 8) && leb (f .samples) (length work)) 10 0 _ l left
+          let sizes = passed-of _ (eqb (length set) ((M + 7) / 8) && leb (f .samples) (length work)) 10 0 _ l left
           (sym (flip-of-file K f set work p h) ∙ ap (λ (bs : List ℕ). flip-out K bs set work) (sym w) ∙ e) in
           let each = both (eqb (length set) ((M + 7) / 8)) (leb (f .samples) (length work)) (sizes .0) in
           let sized : length set ≡ (M + 7) / 8 = eqb-true (length set) ((M + 7) / 8) (each .0) in
-          let none : past-last M set ≡ 0 = eqb-true (past-last M set) 0 (passed (eqb (past-last M set) 0) 21 0 _ l left (sizes .1) .0) in
+          let none : past-last M set ≡ 0 = eqb-true (past-last M set) 0 (passed-of _ (eqb (past-last M set) 0) 21 0 _ l left (sizes .1) .0) in
           record {
             obeys = h;
             written = w;

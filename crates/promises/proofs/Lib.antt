@@ -21,6 +21,8 @@ pub mod PhasedWriteExactly
 pub mod PlaceRules
 pub mod RecordPlaces
 pub mod HeaderPlaces
+pub mod HeaderNames
+pub mod RecordFaults
 pub mod CallPlaces
 pub mod WritePlaces
 pub mod Programs

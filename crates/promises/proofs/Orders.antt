@@ -1,4 +1,4 @@
--- Which refusal comes first: inputs with two faults or more, one list under one statement, proved by computation.
+-- Which refusal comes first, and which variant it names: inputs with two faults or more, one list under one statement, proved by computation.
 -- 01, Replies: "Order: 1 to 11 by number, the lowest place first within a number (offset fields before the end)."
 -- Why they are proved and not only run: that a file is accepted exactly when it obeys does not say which refusal another gets, and the code follows the
 -- definitions. Two rules that changed places in a definition would pass every other proof. Document 01's own examples are format's list `examples`.
@@ -9,6 +9,7 @@ use mathlib.Core.Bool.{not}
 use mathlib.Core.List.{List, [], _∷_, _++_, map}
 use lib.ListN.{length, take, set, replicate}
 use lib.Dec.{eqb}
+use Rattle.format.specs.declared.Refusal.{Refusal}
 use Rattle.format.specs.Limits.{variants-to-a-block}
 use Rattle.format.specs.Varint.{varint-within, read-varint-within}
 use Rattle.format.specs.Numbers.{number-bytes, read-number, numbers-bytes, read-numbers, read-bytes}
@@ -30,34 +31,38 @@ use Rattle.format.specs.Reply.{refusal-of, header-call, check-call, read-call, 
 use Rattle.format.specs.Reply.{flip-call}
 use Rattle.format.specs.Examples.{A, one-record, number-and-place, Example, _gives_}
 
--- number and place: of a header check; of a whole-file check with a work area of so many bytes; of a read of variant v into so many bytes, with a work
--- area of five; of a lookup of a sample; of a view; of a flip of a set; of a write
+-- what a refusal tells: its number, its place and the variant that it names
+abbrev all-told : Refusal → List ℕ
+all-told why = why .number ∷ why .place ∷ why .variant .0 ∷ []
+
+-- of a header check; of a whole-file check with a work area of so many bytes; of a read of variant v into so many bytes, with a work area of five; of a
+-- lookup of a sample; of a view; of a flip of a set; of a write
 abbrev header : List ℕ → List ℕ
-header file = number-and-place (header-call variants-to-a-block file .verdict .refusal)
+header file = all-told (header-call variants-to-a-block file .verdict .refusal)
 
 abbrev check : List ℕ → ℕ → List ℕ
-check file lent = number-and-place (check-call variants-to-a-block file (replicate lent 7) .reply .verdict .refusal)
+check file lent = all-told (check-call variants-to-a-block file (replicate lent 7) .reply .verdict .refusal)
 
 abbrev read : List ℕ → ℕ → ℕ → List ℕ
-read file v lent = number-and-place (read-call variants-to-a-block file (file-variant v) (replicate lent 7) (replicate 5 7) .verdict .refusal)
+read file v lent = all-told (read-call variants-to-a-block file (file-variant v) (replicate lent 7) (replicate 5 7) .verdict .refusal)
 
 abbrev lookup : List ℕ → ℕ → ℕ → ℕ → List ℕ
-lookup file v sample lent = number-and-place (lookup-call variants-to-a-block file (file-variant v) sample (replicate lent 7) .verdict .refusal)
+lookup file v sample lent = all-told (lookup-call variants-to-a-block file (file-variant v) sample (replicate lent 7) .verdict .refusal)
 
 abbrev view : List ℕ → ℕ → List ℕ
-view file v = number-and-place (view-call variants-to-a-block file (file-variant v) .refusal)
+view file v = all-told (view-call variants-to-a-block file (file-variant v) .refusal)
 
 abbrev flip : List ℕ → List ℕ → List ℕ
-flip file bits = number-and-place (flip-call variants-to-a-block file bits (replicate 5 7) .verdict .refusal)
+flip file bits = all-told (flip-call variants-to-a-block file bits (replicate 5 7) .verdict .refusal)
 
 abbrev write : List ℕ → ℕ → ℕ → List ℕ → ℕ → List ℕ
-write categories kind code lent room = number-and-place (write-call categories kind code lent (replicate room 7) .verdict .refusal)
+write categories kind code lent room = all-told (write-call categories kind code lent (replicate room 7) .verdict .refusal)
 
 abbrev write-both : List ℕ → List ℕ → ℕ → ℕ → List ℕ → ℕ → List ℕ
 write-both categories phases kind code lent room =
-    number-and-place (write-phased-call categories phases kind code lent (replicate room 7) .verdict .refusal)
+    all-told (write-phased-call categories phases kind code lent (replicate room 7) .verdict .refusal)
 
--- a list of a record that ends at `end`, of N samples, none of them with value 0
+-- number and place in a list, where no variant is named yet: of a record that ends at `end`, of N samples, none of them with value 0
 abbrev list-reply : ℕ → ℕ → List ℕ → List ℕ
 list-reply N end bs =
     number-and-place (refusal-of (read-list (record { samples = N; may = λ (sample value : ℕ). not (eqb value 0) }) (number-width N) end bs))
@@ -81,129 +86,136 @@ unblocked-file form rest = (0x6c ∷ 0x1b ∷ 0x02 ∷ 1 ∷ 0 ∷ 0 ∷ 0 ∷ 5
 abbrev pub orders : List Example
 orders =
     -- 1 at the file's length, whatever stands in it
-    (header [] gives (1 ∷ 0 ∷ []))
-    ∷ (header (replicate 11 0) gives (1 ∷ 11 ∷ []))
+    (header [] gives (1 ∷ 0 ∷ 0 ∷ []))
+    ∷ (header (replicate 11 0) gives (1 ∷ 11 ∷ 0 ∷ []))
     -- 2 before 3 before 4, M before N, before 5, before 6
-    ∷ (header (set (set A 0 0) 2 0) gives (2 ∷ 0 ∷ []))
-    ∷ (header (set (set A 2 3) 3 0) gives (3 ∷ 2 ∷ []))
-    ∷ (header (set (set A 3 0) 7 0) gives (4 ∷ 3 ∷ []))
-    ∷ (header (set (set A 7 0) 11 0x08) gives (4 ∷ 7 ∷ []))
-    ∷ (header (take 20 (set A 11 0x48)) gives (5 ∷ 11 ∷ []))
+    ∷ (header (set (set A 0 0) 2 0) gives (2 ∷ 0 ∷ 0 ∷ []))
+    ∷ (header (set (set A 2 3) 3 0) gives (3 ∷ 2 ∷ 0 ∷ []))
+    ∷ (header (set (set A 3 0) 7 0) gives (4 ∷ 3 ∷ 0 ∷ []))
+    ∷ (header (set (set A 7 0) 11 0x08) gives (4 ∷ 7 ∷ 0 ∷ []))
+    ∷ (header (take 20 (set A 11 0x48)) gives (5 ∷ 11 ∷ 3 ∷ []))
     -- 5 for bit 4 and for bit 5, before 6; in mode 0x02 for each of bits 0 to 5
-    ∷ (header (take 20 (set A 11 0x50)) gives (5 ∷ 11 ∷ []))
-    ∷ (header (take 20 (set A 11 0x60)) gives (5 ∷ 11 ∷ []))
-    ∷ (header (unblocked-file 0xc1 []) gives (5 ∷ 11 ∷ []))
-    ∷ (header (unblocked-file 0xc8 []) gives (5 ∷ 11 ∷ []))
-    ∷ (header (unblocked-file 0xd0 []) gives (5 ∷ 11 ∷ []))
-    ∷ (header (unblocked-file 0xe0 []) gives (5 ∷ 11 ∷ []))
+    ∷ (header (take 20 (set A 11 0x50)) gives (5 ∷ 11 ∷ 3 ∷ []))
+    ∷ (header (take 20 (set A 11 0x60)) gives (5 ∷ 11 ∷ 3 ∷ []))
+    ∷ (header (unblocked-file 0xc1 []) gives (5 ∷ 11 ∷ 1 ∷ []))
+    ∷ (header (unblocked-file 0xc8 []) gives (5 ∷ 11 ∷ 1 ∷ []))
+    ∷ (header (unblocked-file 0xd0 []) gives (5 ∷ 11 ∷ 1 ∷ []))
+    ∷ (header (unblocked-file 0xe0 []) gives (5 ∷ 11 ∷ 1 ∷ []))
     -- mode 0x02: 6 for the flag bits, 7 for their unused bits before 9; its record's unused bits (18)
-    ∷ (header (unblocked-file 0xc0 []) gives (6 ∷ 12 ∷ []))
-    ∷ (header (unblocked-file 0xc0 (0x02 ∷ [])) gives (7 ∷ 12 ∷ []))
-    ∷ (header (unblocked-file 0xc0 (0x01 ∷ 0xe4 ∷ [])) gives (9 ∷ 14 ∷ []))
-    ∷ (header (unblocked-file 0x80 (0xe4 ∷ 0x00 ∷ 0x00 ∷ [])) gives (9 ∷ 15 ∷ []))
-    ∷ (read (unblocked-file 0x40 (0xe4 ∷ 0x04 ∷ [])) 0 5 gives (18 ∷ 13 ∷ []))
+    ∷ (header (unblocked-file 0xc0 []) gives (6 ∷ 12 ∷ 1 ∷ []))
+    ∷ (header (unblocked-file 0xc0 (0x02 ∷ [])) gives (7 ∷ 12 ∷ 1 ∷ []))
+    ∷ (header (unblocked-file 0xc0 (0x01 ∷ 0xe4 ∷ [])) gives (9 ∷ 14 ∷ 1 ∷ []))
+    ∷ (header (unblocked-file 0x80 (0xe4 ∷ 0x00 ∷ 0x00 ∷ [])) gives (9 ∷ 15 ∷ 1 ∷ []))
+    ∷ (read (unblocked-file 0x40 (0xe4 ∷ 0x04 ∷ [])) 0 5 gives (18 ∷ 13 ∷ 0 ∷ []))
     -- 6 before 7, 7 before 8, 8 before 9, whatever stands first
-    ∷ (header (take 24 (set A 21 0x14)) gives (6 ∷ 24 ∷ []))
-    ∷ (header (set (set A 20 0x50) 21 0x14) gives (7 ∷ 21 ∷ []))
-    ∷ (header (set (set A 20 0x50) 12 0) gives (8 ∷ 20 ∷ []))
+    ∷ (header (take 24 (set A 21 0x14)) gives (6 ∷ 24 ∷ 3 ∷ []))
+    ∷ (header (set (set A 20 0x50) 21 0x14) gives (7 ∷ 21 ∷ 3 ∷ []))
+    ∷ (header (set (set A 20 0x50) 12 0) gives (8 ∷ 20 ∷ 1 ∷ []))
+    -- 8 names the lower of two such types in a byte, and the lower of two in two bytes
+    ∷ (header (set A 20 0x55) gives (8 ∷ 20 ∷ 0 ∷ []))
+    ∷ (header (set (set A 20 0x50) 21 0x05) gives (8 ∷ 20 ∷ 1 ∷ []))
+    ∷ (header (set A 21 0x05) gives (8 ∷ 21 ∷ 2 ∷ []))
     -- 9: an offset field before the end
-    ∷ (header (take 33 (set A 12 0)) gives (9 ∷ 12 ∷ []))
-    ∷ (header (take 33 A) gives (9 ∷ 33 ∷ []))
+    ∷ (header (take 33 (set A 12 0)) gives (9 ∷ 12 ∷ 3 ∷ []))
+    ∷ (header (take 33 A) gives (9 ∷ 33 ∷ 3 ∷ []))
     -- 9 before 10 before 11; 11 before the records
-    ∷ (read (set A 12 0) 3 4 gives (9 ∷ 12 ∷ []))
-    ∷ (read A 3 4 gives (10 ∷ 0 ∷ []))
-    ∷ (read (set A 26 0xff) 3 5 gives (11 ∷ 0 ∷ []))
+    ∷ (read (set A 12 0) 3 4 gives (9 ∷ 12 ∷ 3 ∷ []))
+    ∷ (read A 3 4 gives (10 ∷ 0 ∷ 3 ∷ []))
+    ∷ (read (set A 26 0xff) 3 5 gives (11 ∷ 0 ∷ 3 ∷ []))
     -- an anchor before the record that leans on it; a record's own fault where the anchor has none; no other record is looked at
-    ∷ (read (set (set A 26 0x04) 29 0x05) 1 5 gives (18 ∷ 26 ∷ []))
-    ∷ (read (set A 29 0x05) 1 5 gives (17 ∷ 29 ∷ []))
-    ∷ (read (set A 29 0x05) 2 5 gives (0 ∷ 0 ∷ []))
+    ∷ (read (set (set A 26 0x04) 29 0x05) 1 5 gives (18 ∷ 26 ∷ 0 ∷ []))
+    ∷ (read (set A 29 0x05) 1 5 gives (17 ∷ 29 ∷ 1 ∷ []))
+    ∷ (read (set A 29 0x05) 2 5 gives (0 ∷ 0 ∷ 0 ∷ []))
     -- a lookup: the same, and 11 for its sample too; the whole record is checked
-    ∷ (lookup (set A 12 0) 3 5 4 gives (9 ∷ 12 ∷ []))
-    ∷ (lookup A 3 5 4 gives (10 ∷ 0 ∷ []))
-    ∷ (lookup (set A 26 0xff) 3 0 5 gives (11 ∷ 0 ∷ []))
-    ∷ (lookup (set A 29 0x05) 1 5 5 gives (11 ∷ 0 ∷ []))
-    ∷ (lookup (set (set A 26 0x04) 29 0x05) 1 0 5 gives (18 ∷ 26 ∷ []))
-    ∷ (lookup (set A 29 0x05) 1 0 5 gives (17 ∷ 29 ∷ []))
-    ∷ (lookup (set A 29 0x05) 2 0 5 gives (0 ∷ 0 ∷ []))
+    ∷ (lookup (set A 12 0) 3 5 4 gives (9 ∷ 12 ∷ 3 ∷ []))
+    ∷ (lookup A 3 5 4 gives (10 ∷ 0 ∷ 3 ∷ []))
+    ∷ (lookup (set A 26 0xff) 3 0 5 gives (11 ∷ 0 ∷ 3 ∷ []))
+    ∷ (lookup (set A 29 0x05) 1 5 5 gives (11 ∷ 0 ∷ 1 ∷ []))
+    ∷ (lookup A 3 5 5 gives (11 ∷ 0 ∷ 3 ∷ []))
+    ∷ (lookup (set (set A 26 0x04) 29 0x05) 1 0 5 gives (18 ∷ 26 ∷ 0 ∷ []))
+    ∷ (lookup (set A 29 0x05) 1 0 5 gives (17 ∷ 29 ∷ 1 ∷ []))
+    ∷ (lookup (set A 29 0x05) 2 0 5 gives (0 ∷ 0 ∷ 0 ∷ []))
     -- a view: 9 before 11, and no record
-    ∷ (view (set A 12 0) 3 gives (9 ∷ 12 ∷ []))
-    ∷ (view (set A 29 0x05) 3 gives (11 ∷ 0 ∷ []))
-    ∷ (view (set A 29 0x05) 1 gives (0 ∷ 0 ∷ []))
+    ∷ (view (set A 12 0) 3 gives (9 ∷ 12 ∷ 3 ∷ []))
+    ∷ (view (set A 29 0x05) 3 gives (11 ∷ 0 ∷ 3 ∷ []))
+    ∷ (view (set A 29 0x05) 1 gives (0 ∷ 0 ∷ 0 ∷ []))
     -- a whole-file check: 9 before 10 before the records, in variant order
-    ∷ (check (set A 12 0) 4 gives (9 ∷ 12 ∷ []))
-    ∷ (check (set A 29 0x05) 4 gives (10 ∷ 0 ∷ []))
-    ∷ (check (set (set A 26 0x04) 29 0x05) 5 gives (18 ∷ 26 ∷ []))
-    ∷ (check (set (set A 29 0x05) 33 0x00) 5 gives (17 ∷ 29 ∷ []))
-    ∷ (check (set A 33 0x00) 5 gives (17 ∷ 33 ∷ []))
+    ∷ (check (set A 12 0) 4 gives (9 ∷ 12 ∷ 3 ∷ []))
+    ∷ (check (set A 29 0x05) 4 gives (10 ∷ 0 ∷ 3 ∷ []))
+    ∷ (check (set (set A 26 0x04) 29 0x05) 5 gives (18 ∷ 26 ∷ 0 ∷ []))
+    ∷ (check (set (set A 29 0x05) 33 0x00) 5 gives (17 ∷ 29 ∷ 1 ∷ []))
+    ∷ (check (set A 33 0x00) 5 gives (17 ∷ 33 ∷ 2 ∷ []))
     -- a flip: 10 before 21 before the records, of which the first comes first
-    ∷ (flip (set A 29 0x05) (0x0f ∷ 0 ∷ []) gives (10 ∷ 0 ∷ []))
-    ∷ (flip (set A 29 0x05) (0x0f ∷ []) gives (21 ∷ 0 ∷ []))
-    ∷ (flip (set (set A 29 0x05) 33 0x00) (0x07 ∷ []) gives (17 ∷ 29 ∷ []))
+    ∷ (flip (set A 29 0x05) (0x0f ∷ 0 ∷ []) gives (10 ∷ 0 ∷ 3 ∷ []))
+    ∷ (flip (set A 29 0x05) (0x0f ∷ []) gives (21 ∷ 0 ∷ 3 ∷ []))
+    ∷ (flip (set (set A 29 0x05) 33 0x00) (0x07 ∷ []) gives (17 ∷ 29 ∷ 1 ∷ []))
     -- kind 1, part by part: its code (12, 14), its bits (12, 18), its list (17), lastly 13
-    ∷ (read (of-kind 1 []) 0 5 gives (12 ∷ 22 ∷ []))
-    ∷ (read (of-kind 1 (4 ∷ [])) 0 5 gives (14 ∷ 22 ∷ []))
-    ∷ (read (of-kind 1 (4 ∷ 0x26 ∷ [])) 0 5 gives (14 ∷ 22 ∷ []))
-    ∷ (read (of-kind 1 (1 ∷ [])) 0 5 gives (12 ∷ 23 ∷ []))
-    ∷ (read (of-kind 1 (1 ∷ 0x26 ∷ [])) 0 5 gives (18 ∷ 23 ∷ []))
-    ∷ (read (of-kind 1 (1 ∷ 0x26 ∷ 1 ∷ 4 ∷ 1 ∷ [])) 0 5 gives (18 ∷ 23 ∷ []))
-    ∷ (read (of-kind 1 (1 ∷ 0x06 ∷ 1 ∷ 4 ∷ 1 ∷ 9 ∷ [])) 0 5 gives (17 ∷ 26 ∷ []))
-    ∷ (read (of-kind 1 (1 ∷ 0x06 ∷ 1 ∷ 4 ∷ 3 ∷ 9 ∷ [])) 0 5 gives (13 ∷ 27 ∷ []))
+    ∷ (read (of-kind 1 []) 0 5 gives (12 ∷ 22 ∷ 0 ∷ []))
+    ∷ (read (of-kind 1 (4 ∷ [])) 0 5 gives (14 ∷ 22 ∷ 0 ∷ []))
+    ∷ (read (of-kind 1 (4 ∷ 0x26 ∷ [])) 0 5 gives (14 ∷ 22 ∷ 0 ∷ []))
+    ∷ (read (of-kind 1 (1 ∷ [])) 0 5 gives (12 ∷ 23 ∷ 0 ∷ []))
+    ∷ (read (of-kind 1 (1 ∷ 0x26 ∷ [])) 0 5 gives (18 ∷ 23 ∷ 0 ∷ []))
+    ∷ (read (of-kind 1 (1 ∷ 0x26 ∷ 1 ∷ 4 ∷ 1 ∷ [])) 0 5 gives (18 ∷ 23 ∷ 0 ∷ []))
+    ∷ (read (of-kind 1 (1 ∷ 0x06 ∷ 1 ∷ 4 ∷ 1 ∷ 9 ∷ [])) 0 5 gives (17 ∷ 26 ∷ 0 ∷ []))
+    ∷ (read (of-kind 1 (1 ∷ 0x06 ∷ 1 ∷ 4 ∷ 3 ∷ 9 ∷ [])) 0 5 gives (13 ∷ 27 ∷ 0 ∷ []))
     -- 13 last in the other kinds too: after a packed array (12, 18), after a list (17), also an empty one
-    ∷ (read (of-kind 0 (0xe4 ∷ [])) 0 5 gives (12 ∷ 23 ∷ []))
-    ∷ (read (of-kind 0 (0xe4 ∷ 0x04 ∷ 9 ∷ [])) 0 5 gives (18 ∷ 23 ∷ []))
-    ∷ (read (of-kind 0 (0xe4 ∷ 0x00 ∷ 9 ∷ [])) 0 5 gives (13 ∷ 24 ∷ []))
-    ∷ (read (of-kind 4 (1 ∷ 2 ∷ 0 ∷ 9 ∷ [])) 0 5 gives (17 ∷ 24 ∷ []))
-    ∷ (read (of-kind 4 (1 ∷ 2 ∷ 3 ∷ 9 ∷ [])) 0 5 gives (13 ∷ 25 ∷ []))
-    ∷ (read (of-kind 4 (0 ∷ 9 ∷ [])) 0 5 gives (13 ∷ 23 ∷ []))
+    ∷ (read (of-kind 0 (0xe4 ∷ [])) 0 5 gives (12 ∷ 23 ∷ 0 ∷ []))
+    ∷ (read (of-kind 0 (0xe4 ∷ 0x04 ∷ 9 ∷ [])) 0 5 gives (18 ∷ 23 ∷ 0 ∷ []))
+    ∷ (read (of-kind 0 (0xe4 ∷ 0x00 ∷ 9 ∷ [])) 0 5 gives (13 ∷ 24 ∷ 0 ∷ []))
+    ∷ (read (of-kind 4 (1 ∷ 2 ∷ 0 ∷ 9 ∷ [])) 0 5 gives (17 ∷ 24 ∷ 0 ∷ []))
+    ∷ (read (of-kind 4 (1 ∷ 2 ∷ 3 ∷ 9 ∷ [])) 0 5 gives (13 ∷ 25 ∷ 0 ∷ []))
+    ∷ (read (of-kind 4 (0 ∷ 9 ∷ [])) 0 5 gives (13 ∷ 23 ∷ 0 ∷ []))
     -- a phase track: the main track (18); its first part (12, 18), then its phase bits (12, 18); then bytes left (13)
-    ∷ (read (of-phased 0 (0x55 ∷ 0x05 ∷ [])) 0 5 gives (18 ∷ 23 ∷ []))
-    ∷ (read (of-phased 0 (0x55 ∷ 0x01 ∷ [])) 0 5 gives (12 ∷ 24 ∷ []))
-    ∷ (read (of-phased 0 (0x55 ∷ 0x01 ∷ 0x02 ∷ [])) 0 5 gives (18 ∷ 24 ∷ []))
-    ∷ (read (of-phased 0 (0x55 ∷ 0x01 ∷ 0x7f ∷ [])) 0 5 gives (18 ∷ 24 ∷ []))
-    ∷ (read (of-phased 0 (0x55 ∷ 0x01 ∷ 0x00 ∷ [])) 0 5 gives (12 ∷ 25 ∷ []))
-    ∷ (read (of-phased 0 (0x55 ∷ 0x01 ∷ 0x00 ∷ 0x20 ∷ 9 ∷ [])) 0 5 gives (18 ∷ 25 ∷ []))
-    ∷ (read (of-phased 0 (0x55 ∷ 0x01 ∷ 0x00 ∷ 0x1f ∷ 9 ∷ [])) 0 5 gives (13 ∷ 26 ∷ []))
-    ∷ (read (of-phased 0 (0x55 ∷ 0x01 ∷ 0x01 ∷ 9 ∷ [])) 0 5 gives (13 ∷ 25 ∷ []))
-    ∷ (read (of-phased 0 (0x55 ∷ 0x01 ∷ 0x3f ∷ 0x1f ∷ [])) 0 5 gives (0 ∷ 0 ∷ []))
+    ∷ (read (of-phased 0 (0x55 ∷ 0x05 ∷ [])) 0 5 gives (18 ∷ 23 ∷ 0 ∷ []))
+    ∷ (read (of-phased 0 (0x55 ∷ 0x01 ∷ [])) 0 5 gives (12 ∷ 24 ∷ 0 ∷ []))
+    ∷ (read (of-phased 0 (0x55 ∷ 0x01 ∷ 0x02 ∷ [])) 0 5 gives (18 ∷ 24 ∷ 0 ∷ []))
+    ∷ (read (of-phased 0 (0x55 ∷ 0x01 ∷ 0x7f ∷ [])) 0 5 gives (18 ∷ 24 ∷ 0 ∷ []))
+    ∷ (read (of-phased 0 (0x55 ∷ 0x01 ∷ 0x00 ∷ [])) 0 5 gives (12 ∷ 25 ∷ 0 ∷ []))
+    ∷ (read (of-phased 0 (0x55 ∷ 0x01 ∷ 0x00 ∷ 0x20 ∷ 9 ∷ [])) 0 5 gives (18 ∷ 25 ∷ 0 ∷ []))
+    ∷ (read (of-phased 0 (0x55 ∷ 0x01 ∷ 0x00 ∷ 0x1f ∷ 9 ∷ [])) 0 5 gives (13 ∷ 26 ∷ 0 ∷ []))
+    ∷ (read (of-phased 0 (0x55 ∷ 0x01 ∷ 0x01 ∷ 9 ∷ [])) 0 5 gives (13 ∷ 25 ∷ 0 ∷ []))
+    ∷ (read (of-phased 0 (0x55 ∷ 0x01 ∷ 0x3f ∷ 0x1f ∷ [])) 0 5 gives (0 ∷ 0 ∷ 0 ∷ []))
     -- the writer of phased records: 19, 10 (phases), 20 (categories, then anchor), 22, 10 (output)
-    ∷ (write-both (4 ∷ []) [] 5 0 [] 0 gives (19 ∷ 0 ∷ []))
-    ∷ (write-both (4 ∷ []) [] 0 0 [] 0 gives (10 ∷ 0 ∷ []))
-    ∷ (write-both (1 ∷ 4 ∷ []) (3 ∷ 0 ∷ []) 0 0 [] 0 gives (20 ∷ 1 ∷ []))
-    ∷ (write-both (1 ∷ 1 ∷ []) (3 ∷ 0 ∷ []) 2 0 (0 ∷ 9 ∷ []) 0 gives (20 ∷ 1 ∷ []))
-    ∷ (write-both (1 ∷ 0 ∷ []) (2 ∷ 1 ∷ []) 0 0 [] 0 gives (22 ∷ 1 ∷ []))
-    ∷ (write-both (1 ∷ 0 ∷ []) (3 ∷ 1 ∷ []) 0 0 [] 0 gives (22 ∷ 0 ∷ []))
-    ∷ (write-both (1 ∷ 0 ∷ []) (2 ∷ 0 ∷ []) 0 0 [] 2 gives (10 ∷ 0 ∷ []))
-    ∷ (write-both (1 ∷ 0 ∷ []) (2 ∷ 0 ∷ []) 0 0 [] 3 gives (0 ∷ 0 ∷ []))
+    ∷ (write-both (4 ∷ []) [] 5 0 [] 0 gives (19 ∷ 0 ∷ 0 ∷ []))
+    ∷ (write-both (4 ∷ []) [] 0 0 [] 0 gives (10 ∷ 0 ∷ 0 ∷ []))
+    ∷ (write-both (1 ∷ 4 ∷ []) (3 ∷ 0 ∷ []) 0 0 [] 0 gives (20 ∷ 1 ∷ 0 ∷ []))
+    ∷ (write-both (1 ∷ 1 ∷ []) (3 ∷ 0 ∷ []) 2 0 (0 ∷ 9 ∷ []) 0 gives (20 ∷ 1 ∷ 0 ∷ []))
+    ∷ (write-both (1 ∷ 0 ∷ []) (2 ∷ 1 ∷ []) 0 0 [] 0 gives (22 ∷ 1 ∷ 0 ∷ []))
+    ∷ (write-both (1 ∷ 0 ∷ []) (3 ∷ 1 ∷ []) 0 0 [] 0 gives (22 ∷ 0 ∷ 0 ∷ []))
+    ∷ (write-both (1 ∷ 0 ∷ []) (2 ∷ 0 ∷ []) 0 0 [] 2 gives (10 ∷ 0 ∷ 0 ∷ []))
+    ∷ (write-both (1 ∷ 0 ∷ []) (2 ∷ 0 ∷ []) 0 0 [] 3 gives (0 ∷ 0 ∷ 0 ∷ []))
     -- the writer: 4, 19, 10 (anchor), 20 (categories, then anchor), 10 (output)
-    ∷ (write (replicate 65537 4) 5 0 [] 0 gives (4 ∷ 0 ∷ []))
-    ∷ (write [] 2 0 (9 ∷ []) 0 gives (4 ∷ 0 ∷ []))
-    ∷ (write [] 5 7 (1 ∷ []) 0 gives (4 ∷ 0 ∷ []))
-    ∷ (write (4 ∷ []) 5 0 (1 ∷ []) 0 gives (19 ∷ 0 ∷ []))
-    ∷ (write (4 ∷ []) 1 4 (1 ∷ []) 0 gives (19 ∷ 0 ∷ []))
-    ∷ (write (4 ∷ []) 0 1 (1 ∷ []) 0 gives (19 ∷ 0 ∷ []))
-    ∷ (write (4 ∷ []) 0 0 (1 ∷ []) 0 gives (10 ∷ 0 ∷ []))
-    ∷ (write (0 ∷ 4 ∷ []) 2 0 (9 ∷ 9 ∷ []) 0 gives (20 ∷ 1 ∷ []))
-    ∷ (write (0 ∷ 1 ∷ []) 2 0 (9 ∷ 9 ∷ []) 0 gives (20 ∷ 0 ∷ []))
-    ∷ (write (0 ∷ 1 ∷ []) 0 0 [] 0 gives (10 ∷ 0 ∷ []))
-    -- a list: its count (12, 15, 16); the parts fit (12); unused value bits (18); a number (16) before its value (17)
+    ∷ (write (replicate 65537 4) 5 0 [] 0 gives (4 ∷ 0 ∷ 0 ∷ []))
+    ∷ (write [] 2 0 (9 ∷ []) 0 gives (4 ∷ 0 ∷ 0 ∷ []))
+    ∷ (write [] 5 7 (1 ∷ []) 0 gives (4 ∷ 0 ∷ 0 ∷ []))
+    ∷ (write (4 ∷ []) 5 0 (1 ∷ []) 0 gives (19 ∷ 0 ∷ 0 ∷ []))
+    ∷ (write (4 ∷ []) 1 4 (1 ∷ []) 0 gives (19 ∷ 0 ∷ 0 ∷ []))
+    ∷ (write (4 ∷ []) 0 1 (1 ∷ []) 0 gives (19 ∷ 0 ∷ 0 ∷ []))
+    ∷ (write (4 ∷ []) 0 0 (1 ∷ []) 0 gives (10 ∷ 0 ∷ 0 ∷ []))
+    ∷ (write (0 ∷ 4 ∷ []) 2 0 (9 ∷ 9 ∷ []) 0 gives (20 ∷ 1 ∷ 0 ∷ []))
+    ∷ (write (0 ∷ 1 ∷ []) 2 0 (9 ∷ 9 ∷ []) 0 gives (20 ∷ 0 ∷ 0 ∷ []))
+    ∷ (write (0 ∷ 1 ∷ []) 0 0 [] 0 gives (10 ∷ 0 ∷ 0 ∷ []))
+    -- a list: its count (12, 15, 16); the parts fit (12); unused value bits (18); a number (23, 24) before its value (17)
     ∷ (list-reply 9 40 (0x80 ∷ 0x80 ∷ 0x80 ∷ 0x80 ∷ []) gives (12 ∷ 40 ∷ []))
     ∷ (list-reply 9 40 (0x80 ∷ 0x80 ∷ 0x80 ∷ 0x80 ∷ 0x80 ∷ []) gives (15 ∷ 35 ∷ []))
     ∷ (list-reply 9 40 (10 ∷ []) gives (16 ∷ 39 ∷ []))
     ∷ (list-reply 9 40 (1 ∷ 9 ∷ []) gives (12 ∷ 40 ∷ []))
     ∷ (list-reply 9 40 (1 ∷ 9 ∷ 0xf0 ∷ []) gives (18 ∷ 39 ∷ []))
-    ∷ (list-reply 9 40 (1 ∷ 9 ∷ 0x00 ∷ []) gives (16 ∷ 38 ∷ []))
+    ∷ (list-reply 9 40 (1 ∷ 9 ∷ 0x00 ∷ []) gives (24 ∷ 38 ∷ []))
     ∷ (list-reply 9 40 (1 ∷ 8 ∷ 0x00 ∷ []) gives (17 ∷ 39 ∷ []))
     -- entry by entry: the first one's value (17) before the second one's varint (15)
     ∷ (list-reply 9 40 (2 ∷ 3 ∷ 0x04 ∷ 0x80 ∷ 0x00 ∷ []) gives (17 ∷ 37 ∷ []))
-    -- an entry's varint (12, 15) before its number (16)
+    -- an entry's varint (12, 15) before its number (23, 24)
     ∷ (list-reply 9 40 (2 ∷ 8 ∷ 0x05 ∷ []) gives (12 ∷ 40 ∷ []))
     ∷ (list-reply 9 40 (2 ∷ 8 ∷ 0x05 ∷ 0x80 ∷ 0x00 ∷ []) gives (15 ∷ 38 ∷ []))
-    ∷ (list-reply 9 40 (2 ∷ 8 ∷ 0x01 ∷ 0x00 ∷ []) gives (16 ∷ 39 ∷ []))
-    -- a group's last value (17) before its size byte (16), that before the next group's head (16), that before its value (17)
+    ∷ (list-reply 9 40 (2 ∷ 8 ∷ 0x01 ∷ 0x00 ∷ []) gives (23 ∷ 39 ∷ []))
+    ∷ (list-reply 9 40 (2 ∷ 8 ∷ 0x01 ∷ 0x01 ∷ []) gives (24 ∷ 39 ∷ []))
+    -- a group's last value (17) before its size byte (25), that before the next group's head (23, 24), that before its value (17)
     ∷ (list-reply 256 100 (two-groups 0 64) gives (0 ∷ 0 ∷ []))
     ∷ (list-reply 256 100 (set (two-groups 1 63) 19 0x15) gives (17 ∷ 35 ∷ []))
-    ∷ (list-reply 256 100 (two-groups 1 63) gives (16 ∷ 19 ∷ []))
-    ∷ (list-reply 256 100 (set (two-groups 0 63) 20 0) gives (16 ∷ 18 ∷ []))
+    ∷ (list-reply 256 100 (two-groups 1 63) gives (25 ∷ 19 ∷ []))
+    ∷ (list-reply 256 100 (set (two-groups 0 63) 20 0) gives (23 ∷ 18 ∷ []))
+    ∷ (list-reply 200 100 (set (two-groups 0 200) 20 0) gives (24 ∷ 18 ∷ []))
     ∷ (list-reply 256 100 (set (two-groups 0 64) 20 0) gives (17 ∷ 36 ∷ []))
     ∷ []
 

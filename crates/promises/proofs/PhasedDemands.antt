@@ -11,13 +11,13 @@ use lib.ListN.{length, take, drop, getD, replicate}
 use lib.Dec.{lit<}
 use Rattle.format.specs.declared.FileVariant.{FileVariant}
 use Rattle.format.specs.declared.Reply.the-variants as reply
-use Rattle.format.specs.Base.{Bytes, ok, refusal, map-out}
+use Rattle.format.specs.Base.{Bytes, ok, refusal, named, map-out}
 use Rattle.format.specs.Limits.{variants-to-a-block}
 use Rattle.format.specs.Classes.{header-numbers, record-numbers, phased-writer-numbers}
 use Rattle.format.specs.Track.{Track}
 use Rattle.format.specs.Phase.{PhaseTrack, exchange-phases}
 use Rattle.format.specs.Body.{body-bytes, read-body, body-phases, body-reading}
-use Rattle.format.specs.Variant.{anchor}
+use Rattle.format.specs.Variant.{no-variant, anchor}
 use Rattle.format.specs.Layout.{Layout, layout-bytes, LayoutObeys}
 use Rattle.format.specs.File.{File, file-bytes, phase-rows, Obeys, variant-leans}
 use Rattle.format.specs.Writer.{write-phased}
@@ -28,7 +28,8 @@ use Rattle.call_rows.specs.Calls.{answered, start-rows-call}
 use Rattle.call_rows.specs.Phased.{LeftPhased, phased-row-left, next-phased-row-call}
 use Rattle.promises.proofs.DemandLaws.{Numbered, verdict-numbered, both-numbered, both-untouched, both-stays}
 use Rattle.promises.proofs.CallLaws.{refused-phases, refused-phased-write}
-use Rattle.promises.proofs.CallPlaces.{PlaceIs, RecordOf, phases-place}
+use Rattle.promises.proofs.RecordFaults.{RecordOf}
+use Rattle.promises.proofs.CallPlaces.{PlaceIs, AskedFor, phases-place}
 use Rattle.promises.proofs.WritePlaces.{PhasedPlaceIs, write-phased-place}
 use Rattle.promises.proofs.WorkLeft.{WorkLeft, phases-work}
 use Rattle.promises.proofs.CallPromises.{phases-call-reads}
@@ -66,10 +67,10 @@ write categories phases kind code anchor output = write-phased-call categories p
 
 -- "Every input gets a reply; no caller has to check first. A refusal has a number and a place, and leaves every output and the file untouched."
 pub record Phased-1 : Type 0 where
-  -- The reading of phases refuses with 1 to 18, as a read does;
+  -- The reading of phases refuses with 1 to 18 and 23 to 25, as a read does;
   pub phases-numbers-are : (file : List ℕ) (v : FileVariant) (output work : List ℕ) → Bytes file
       → Numbered (header-numbers ++ (10 ∷ 11 ∷ record-numbers)) (phases-of file v output work .verdict)
-  -- a step that gives phases too with 4 and 8 to 18, as one that gives categories alone;
+  -- a step that gives phases too with 4, 8 to 18 and 23 to 25, as one that gives categories alone;
   pub next-phased-row-numbers-are : (state : Rows) (file output phases work : List ℕ) → Bytes file
       → Numbered (4 ∷ 8 ∷ 9 ∷ 10 ∷ 11 ∷ record-numbers) (next-phased-row state file output phases work .row .verdict)
   -- the writer of phased records with 4, 10, 19, 20 and 22.
@@ -77,7 +78,7 @@ pub record Phased-1 : Type 0 where
       → Numbered phased-writer-numbers (write categories phases kind code anchor output .verdict)
   -- The places are a read's; the writer's 20 and 22 stand at the index of the first category above 3 and of the first phase that is not allowed.
   pub phases-place-is : (file : List ℕ) (v : FileVariant) (output work : List ℕ) → Bytes file
-      → PlaceIs K file (RecordOf K v) (phases-of file v output work .verdict .refusal)
+      → PlaceIs K file (AskedFor v) (RecordOf K v) (phases-of file v output work .verdict .refusal)
   pub write-place-is : (categories phases : List ℕ) (kind code : ℕ) (anchor output : List ℕ)
       → PhasedPlaceIs categories phases anchor (write categories phases kind code anchor output .verdict .refusal)
   -- Refused, they leave the output as it was, a step both outputs; the work area is left as a read leaves it, or as a step does.
@@ -115,12 +116,13 @@ pub record Phased-2 : Type 0 where
       → (lent : ℕ → Lent) (v : ℕ) → ((u : ℕ) → u < v → Room (state .fields .samples) (lent u))
       → (output phases : List ℕ) → state .fields .samples ≤ length output → state .fields .samples ≤ length phases
       → AsBothRead file work v output phases (both-called file (either-walked file lent (from state work) v) output phases)
-  -- where its own are shorter, it is refused with 10 and leaves all as it was;
+  -- where its own are shorter, it is refused with 10, which names M, and leaves all as it was;
   pub short-row : (file work : List ℕ) (state : Rows) → Bytes file → start-rows-call file work ≡ ok state []
       → (lent : ℕ → Lent) (v : ℕ) → ((u : ℕ) → u < v → Room (state .fields .samples) (lent u))
       → (output phases : List ℕ) → min (length output) (length phases) < state .fields .samples
       → both-called file (either-walked file lent (from state work) v) output phases
-      ≡ phased-row-left (answered (either-walked file lent (from state work) v .rows) (reply.Refused (refusal 10 0))) output phases
+      ≡ phased-row-left
+      (answered (either-walked file lent (from state work) v .rows) (reply.Refused (named (no-variant (state .fields .variants)) (refusal 10 0)))) output phases
       (either-walked file lent (from state work) v .work)
   -- and of a file that the whole-file check accepts no step below M is refused, where its own outputs have N bytes too.
   pub no-row-refused : (file work : List ℕ) (state : Rows) → Bytes file → start-rows-call file work ≡ ok state []

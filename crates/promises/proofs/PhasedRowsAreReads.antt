@@ -10,7 +10,9 @@ use lib.Dec.{lit<}
 use native.Mathlib.Omega.{arith}
 use Rattle.format.specs.declared.Fields.{Fields}
 use Rattle.format.specs.declared.Reply.the-variants.{Refused}
-use Rattle.format.specs.Base.{pick, Bytes, ok, refuse, refusal}
+use Rattle.format.specs.declared.Refusal.{Refusal}
+use Rattle.format.specs.Base.{pick, Bytes, ok, refused, refusal, named, refuse-of}
+use Rattle.format.specs.Variant.{no-variant}
 use Rattle.format.specs.Limits.{most-samples, most-variants, variants-to-a-block}
 use Rattle.format.specs.Layout.{fields-of, from-1-to, Layout, LayoutObeys, fixed-of}
 use Rattle.format.specs.Reply.{check-call}
@@ -110,22 +112,26 @@ module _ (file work : List ℕ) (rows : Rows) (y : Bytes file) (e : start-rows-c
       (gives-both file work y l (s .is-accepted) (s .room) v there output phases (omega (arith, n)) (omega (arith, n))
       (samples v (omega arith) ∙ n) r (rows-are-reads file work rows y e outputs v each-output output))
 
-  -- where one of them is shorter, the step is refused with 10 and leaves all as it was
+  -- where one of them is shorter, the step is refused with 10, which names M, and leaves all as it was
+  abbrev no-room : Refusal
+  no-room = named (no-variant (rows .fields .variants)) (refusal 10 0)
+
   pub short-phased-row : (output phases : List ℕ) → min (length output) (length phases) < rows .fields .samples
-      → both-called file reached output phases ≡ phased-row-left (answered (reached .rows) (Refused (refusal 10 0))) output phases (reached .work)
+      → both-called file reached output phases ≡ phased-row-left (answered (reached .rows) (Refused no-room)) output phases (reached .work)
   unfolding next-phased-row-call next-phased-row-in
   short-phased-row output phases h =
       let s : FromStart file work rows = from-start file work rows y e in
       let o : LayoutObeys K (s .layout) = stored-whole K file (s .layout) (lit< tt) y (s .is-accepted) .obeys in
       let f : fields-of (fixed-of (s .layout)) ≡ reached .rows .fields = sym (reached-fields ∙ ap (λ (r : Rows). r .fields) (s .rows-are)) in
       let lent-both : ℕ = min (length output) (length phases) in
-      let short : refuse 10 0 ≡ state-checked (reached .rows) lent-both (length (reached .work))
-      = short-output (reached .rows) lent-both (length (reached .work))
+      let short : refused no-room ≡ state-checked (reached .rows) lent-both (length (reached .work))
+      = ap (λ (z : Fields). refuse-of (no-variant (z .variants)) 10 0) (sym reached-fields)
+      ∙ short-output (reached .rows) lent-both (length (reached .work))
       (subst (λ (z : Fields). from-1-to most-variants (z .variants) ≡ true) f (o .fixed .variants))
       (subst (λ (z : Fields). from-1-to most-samples (z .samples) ≡ true) f (o .fixed .samples))
       (omega (arith, ap (λ (z : Fields). z .samples) reached-fields)) in
       sym (ap (phased-stepped (reached .rows) file output phases (reached .work))
-      (not-next (reached .rows) file file lent-both (length (reached .work)) (refusal 10 0) short))
+      (not-next (reached .rows) file file lent-both (length (reached .work)) no-room short))
 
   -- after an accepted check no step below M is refused
   pub no-phased-row-refused : (work₁ : List ℕ) → check-call K file work₁ .reply .verdict .refusal .number ≡ 0 → v < rows .fields .variants

@@ -10,10 +10,10 @@ use lib.Dec.{lit<}
 use native.Mathlib.Omega.{arith}
 use borrow.Author.Tests.{le-leb, lt-ltb, le-ltb}
 use Rattle.format.specs.declared.FileVariant.{FileVariant}
-use Rattle.format.specs.Base.{pick, Bytes, Out, ok, refuse, refused, bind, map-out}
+use Rattle.format.specs.Base.{pick, Bytes, Out, ok, refuse, refused, bind, map-out, refuse-of, naming}
 use Rattle.format.specs.Limits.{variants-to-a-block}
 use Rattle.format.specs.Body.{read-body, body-phases, Reading, body-reading}
-use Rattle.format.specs.Variant.{file-variant, anchor}
+use Rattle.format.specs.Variant.{file-variant, anchor, no-variant}
 use Rattle.format.specs.Layout.{fields-of, Layout, LayoutObeys, fixed-of}
 use Rattle.format.specs.Header.{read-layout}
 use Rattle.format.specs.File.{variant-leans, read-over, over-as, variant-as, read-variant}
@@ -83,7 +83,7 @@ module _ (file work₀ : List ℕ) (y : Bytes file) (l : Layout) (a : read-layou
     phases-one : v < M → out-as body-phases K file (file-variant v) phases work₀ ≡ variant-as body-phases K l (file-variant v)
     phases-one h = simp (a, le-leb N (length phases) o, le-leb N (length work₀) w₀, lt-ltb v M h)
 
-    phases-none : M ≤ v → out-as body-phases K file (file-variant v) phases work₀ ≡ refuse 11 0
+    phases-none : M ≤ v → out-as body-phases K file (file-variant v) phases work₀ ≡ refuse-of (no-variant M) 11 0
     phases-none h = simp (a, le-leb N (length phases) o, le-leb N (length work₀) w₀, le-ltb v M h)
 
   -- ---- an accepted step
@@ -138,8 +138,9 @@ module _ (file work₀ : List ℕ) (y : Bytes file) (l : Layout) (a : read-layou
           let at : Place = place-in l here in
           let cut : List ℕ = take (at .end) file in
           let read : record-over K l v (take N work) ≡ ok body left
-          = sym (body-is there (take N work))
-          ∙ sym (ap (λ (z : ℕ). read-body (length cut) z (take z work) (at .record_type) (drop (at .start) cut)) n) ∙ f .is-read in
+          = ap (naming here)
+          (sym (body-is there (take N work))
+          ∙ sym (ap (λ (z : ℕ). read-body (length cut) z (take z work) (at .record_type) (drop (at .start) cut)) n) ∙ f .is-read) in
           let same : ok (body-phases N (take N work) body) left ≡ ok row rest
           = sym (ap (map-out (body-phases N (take N work))) read) ∙ over-work row rest e in
           let its-phases : body-phases N (take N work) body ≡ row = cc in
@@ -181,10 +182,10 @@ module _ (file work₀ : List ℕ) (y : Bytes file) (l : Layout) (a : read-layou
     none-there : M ≤ v → AsBothRead file work₀ v output phases left
     unfolding read-call
     none-there h =
-        refused-both (refuse 11 0) (phases-none v phases o₁ h)
+        refused-both (refuse-of (no-variant M) 11 0) (phases-none v phases o₁ h)
         (reads .0 ∙ ap verdict (read-none h)) refl refl
       where
-        read-none : M ≤ v → read-out K file (file-variant v) output work₀ ≡ refuse 11 0
+        read-none : M ≤ v → read-out K file (file-variant v) output work₀ ≡ refuse-of (no-variant M) 11 0
         read-none h = simp (a, le-leb N (length output) o, le-leb N (length work₀) w₀, le-ltb v M h)
 
     one-there : (h : v < M) → Before l work₀ v (at .rows) (at .work) → AsBothRead file work₀ v output phases left

@@ -3,18 +3,21 @@
 use mathlib.Core.Path.{_≡_, refl, ap, _∙_}
 use Prim.Native.Nat.{ℕ, zero, suc, _-_, _/_, _≤_, _<_}
 use native.Mathlib.Nat.{zero-div}
-use mathlib.Core.Bool.{Bool, true, false}
+use mathlib.Core.Bool.{Bool, true, false, not}
 use mathlib.Core.List.{List, [], _∷_}
 use lib.ListN.{length}
 use lib.Dec.{eqb}
 use native.Mathlib.Omega.{arith}
 use borrow.Author.Tests.{eq-eqb}
 use Rattle.format.specs.declared.Refusal.{Refusal}
-use Rattle.format.specs.Base.{Out, ok, refused, refusal, bind, map-out, need}
+use Rattle.format.specs.declared.FileVariant.{FileVariant}
+use Rattle.format.specs.Base.{Out, ok, refused, refusal, bind, map-out, need, named, need-of, naming}
 use Rattle.format.specs.Numbers.{read-number, read-numbers, read-bytes}
 use Rattle.format.specs.Packed.{Bits, limit, more, read-packed-after, read-packed}
+use Rattle.format.specs.Variant.{file-variant}
+use Rattle.format.specs.Classes.{among}
 use Rattle.format.proofs.Rules.{Holds, never-both}
-use Rattle.format.proofs.Refuses.{RecordNumber}
+use Rattle.format.proofs.Refuses.{Among, RecordNumber, every, class-holds}
 
 -- the refusal, if there is one, is one of P
 abbrev pub RefusalIs : {A : Type 0} → (Refusal → Type 0) → Out A → Type 0
@@ -26,10 +29,20 @@ is-wider P Q (ok a left) k r = tt
 is-wider P Q (refused why) k r = k why r
 
 -- a test, then what comes next: each under the test's outcome
+pub is-need-of : {A : Type 0} (P : Refusal → Type 0) (v : FileVariant) (t : Bool) (number place : ℕ) (next : Out A)
+    → (t ≡ false → P (named v (refusal number place))) → (t ≡ true → RefusalIs P next) → RefusalIs P (need-of v t number place next)
+is-need-of P v true number place next h r = r refl
+is-need-of P v false number place next h r = h refl
+
 pub is-need : {A : Type 0} (P : Refusal → Type 0) (t : Bool) (number place : ℕ) (next : Out A) → (t ≡ false → P (refusal number place))
     → (t ≡ true → RefusalIs P next) → RefusalIs P (need t number place next)
-is-need P true number place next h r = r refl
-is-need P false number place next h r = h refl
+is-need P t number place next h r = is-need-of P (file-variant 0) t number place next h r
+
+-- the variant that it names is put in afterwards
+pub is-naming : {A : Type 0} (P : Refusal → Type 0) (v : FileVariant) (m : Out A) → RefusalIs (λ (why : Refusal). P (named v why)) m
+    → RefusalIs P (naming v m)
+is-naming P v (ok a left) r = tt
+is-naming P v (refused why) r = r
 
 pub is-map : {A B : Type 0} (P : Refusal → Type 0) (f : A → B) (m : Out A) → RefusalIs P m → RefusalIs P (map-out f m)
 is-map P f (ok a left) r = tt
@@ -45,6 +58,11 @@ pub is-then : {A B : Type 0} (P : Refusal → Type 0) (m : Out A) (f : A → Lis
     → ((a : A) (left : List ℕ) → RefusalIs P (f a left)) → RefusalIs P (bind m f)
 is-then P (ok a left) f r k = k a left
 is-then P (refused why) f r k = r
+
+-- a number of one class is of no other
+pub apart : {X : Type 0} (class other : List ℕ) (number : ℕ) → every (λ (n : ℕ). not (among other n)) class ≡ true → Among class number → Among other number
+    → X
+apart class other number t a b = never-both (class-holds (λ (n : ℕ). not (among other n)) class number t a) (ap not b)
 
 -- ---- the smallest parts: 12 at the end, 18 at a byte of theirs
 
@@ -93,6 +111,6 @@ pub record Within (start end : ℕ) (why : Refusal) : Type 0 where
   pub at-end : why .number ≡ 12 → why .place ≡ end
   pub before-end : (why .number ≡ 12 → ⊥) → why .place < end
 
--- a refusal 12 to 18 has its place there
+-- a record's refusal has its place there
 abbrev pub RefusedWithin : ℕ → ℕ → Refusal → Type 0
 RefusedWithin start end why = RecordNumber (why .number) → Within start end why

@@ -67,9 +67,9 @@ pub record Says : Type 0 where
   pub lookup : (κs : Lfts 2) (lent : ArgsD reading.lookup.signature κs) (r : ResD reading.lookup.signature κs) (left : AtExit reading.lookup.ended κs)
       → reading.lookup.Reads.Post κs lent r left
       → lookup-left r (now (left .1 .1 .1 .0)) ≡ lookup-call variants-to-a-block (now (lent .0)) (lent .1 .0) (lent .1 .1 .0) (now (lent .1 .1 .1 .0))
-  pub view : (κs : Lfts 3) (lent : ArgsD reading.view.signature κs) (r : ResD reading.view.signature κs) (left : AtExit reading.view.ended κs)
+  pub view : (κs : Lfts 4) (lent : ArgsD reading.view.signature κs) (r : ResD reading.view.signature κs) (left : AtExit reading.view.ended κs)
       → reading.view.Reads.Post κs lent r left
-      → view-left (now (left .1 .1 .0)) (now (left .1 .1 .1 .0)) (now r) (r .ptr)
+      → view-left (now (left .1 .1 .0)) (now (left .1 .1 .1 .0)) (now (left .1 .1 .1 .1 .0)) (now r) (r .ptr)
       ≡ part-of-file (lent .0 .ptr) (view-call variants-to-a-block (now (lent .0)) (lent .1 .0))
   pub write-record : (κs : Lfts 3) (lent : ArgsD writing.write_record.signature κs) (r : ResD writing.write_record.signature κs)
       (left : AtExit writing.write_record.ended κs) → writing.write_record.Reads.Post κs lent r left

@@ -10,7 +10,7 @@ use lib.Dec.{ltb}
 use native.Mathlib.Omega.{arith}
 use borrow.Author.Tests.{ltb-true, leb-true, lt-ltb, le-leb}
 use Rattle.format.specs.declared.FileVariant.{FileVariant}
-use Rattle.format.specs.Base.{pick, Below, Bytes, Out, ok, bind, map-out}
+use Rattle.format.specs.Base.{pick, Below, Bytes, Out, ok, bind, map-out, naming}
 use Rattle.format.specs.Limits.{most-samples}
 use Rattle.format.specs.Body.{kind-of, type-phased, Body, body-bytes, BodyFits, read-body, body-categories, body-phases}
 use Rattle.format.specs.Track.{leans, track-kind}
@@ -20,7 +20,7 @@ use Rattle.format.specs.Layout.{Layout, layout-bytes, record-start, LayoutObeys
 use Rattle.format.specs.Header.{read-layout}
 use Rattle.format.specs.File.{type-of, variant-leans, read-over, over-as, variant-as}
 use Rattle.format.specs.Reply.{refusal-of, given, samples-of, holds-row, out-as, read-as, lookup-out, lookup-call}
-use Rattle.format.proofs.Rules.{Holds, by-need, by-bind, by-map, weaken, both, never-both}
+use Rattle.format.proofs.Rules.{Holds, by-need, by-bind, by-map, weaken, both, never-both, by-naming, by-need-of}
 use Rattle.format.proofs.OffsetsLaws.{from-1-to-most}
 use Rattle.format.proofs.AnchorLaws.{IsAnchor, anchor-is}
 use Rattle.format.proofs.TrackLaws.{leans-track}
@@ -72,9 +72,12 @@ module _ (K : ℕ) (file : List ℕ) (p : zero < K) (y : Bytes file) (l : Layout
       → Holds (λ (row : List ℕ) (left : List ℕ). RecordReads what l lent v row) (over-as what K l lent v)
   unfolding over-as
   over-as-written what lent v =
-      by-map (IsBody (l .samples) lent (type-of l v) (getD (l .bodies) (v .0) [])) (λ (row left : List ℕ). RecordReads what l lent v row)
-      (read-body (record-start K l (next-variant v)) (l .samples) lent (type-of l v) (getD (l .bodies) (v .0) [])) (what (l .samples) lent)
-      (body-as-written (record-start K l (next-variant v)) (l .samples) lent (type-of l v) (getD (l .bodies) (v .0) []) (body-bytes-are v)) (λ body left i.
+      let end : ℕ = record-start K l (next-variant v) in
+      let bs : List ℕ = getD (l .bodies) (v .0) [] in
+      by-map (IsBody (l .samples) lent (type-of l v) bs) (λ (row left : List ℕ). RecordReads what l lent v row)
+      (naming v (read-body end (l .samples) lent (type-of l v) bs)) (what (l .samples) lent)
+      (by-naming _ v (read-body end (l .samples) lent (type-of l v) bs) (body-as-written end (l .samples) lent (type-of l v) bs (body-bytes-are v)))
+      (λ body left i.
       record { body = body; typed = i .kind; phased = i .phased; fits = i .fits; written = i .written; stands-for = refl })
 
   -- its body is the one that is read
@@ -88,7 +91,7 @@ module _ (K : ℕ) (file : List ℕ) (p : zero < K) (y : Bytes file) (l : Layout
       → over-as what K l lent v ≡ ok row []
   unfolding over-as
   over-read-back what lent v row r =
-      ap (map-out (what (l .samples) lent)) (body-is-read what lent v row r) ∙ ap (λ (x : List ℕ). ok x []) (sym (r .stands-for))
+      ap (λ (out : Out Body). map-out (what (l .samples) lent) (naming v out)) (body-is-read what lent v row r) ∙ ap (λ (x : List ℕ). ok x []) (sym (r .stands-for))
 
   -- a variant and its anchor
   pub variant-as-written : (what : ℕ → List ℕ → Body → List ℕ) (v : FileVariant)
@@ -204,9 +207,9 @@ module _ (what : ℕ → List ℕ → Body → List ℕ) (K : ℕ) (file : List 
     may-read : zero < K → Bytes file → Holds (λ (row left : List ℕ). MayRead row) (out-as what K file v output work)
     may-read p y =
         by-bind (IsLayout K file) (λ (row left : List ℕ). MayRead row) (read-layout K file) _ (layout-as-written K file p y) (λ l left w.
-        by-need (λ (row left : List ℕ). MayRead row) (holds-row output l && holds-row work l) 10 0 _ (λ t.
+        by-need-of (λ (row left : List ℕ). MayRead row) _ (holds-row output l && holds-row work l) 10 0 _ (λ t.
         let sizes = both (holds-row output l) (holds-row work l) t in
-        by-need (λ (row left : List ℕ). MayRead row) (ltb (v .0) (length (l .bodies))) 11 0 _
+        by-need-of (λ (row left : List ℕ). MayRead row) _ (ltb (v .0) (length (l .bodies))) 11 0 _
         (found p y l left w (λ (row left : List ℕ). MayRead row) (λ row left r.
         (l, r, leb-true (l .samples) (length output) (sizes .0), leb-true (l .samples) (length work) (sizes .1))))))
 
@@ -247,9 +250,9 @@ module _ (K : ℕ) (file : List ℕ) (v : FileVariant) (sample : ℕ) (work : Li
   may-look-up : zero < K → Bytes file → Holds (λ (row left : List ℕ). MayLookUp row) (lookup-out K file v sample work)
   may-look-up p y =
       by-bind (IsLayout K file) (λ (row left : List ℕ). MayLookUp row) (read-layout K file) _ (layout-as-written K file p y) (λ l left w.
-      by-need (λ (row left : List ℕ). MayLookUp row) (holds-row work l) 10 0 _ (λ t.
-      by-need (λ (row left : List ℕ). MayLookUp row) (ltb (v .0) (length (l .bodies))) 11 0 _ (λ there.
-      by-need (λ (row left : List ℕ). MayLookUp row) (ltb sample (l .samples)) 11 0 _ (λ s.
+      by-need-of (λ (row left : List ℕ). MayLookUp row) _ (holds-row work l) 10 0 _ (λ t.
+      by-need-of (λ (row left : List ℕ). MayLookUp row) _ (ltb (v .0) (length (l .bodies))) 11 0 _ (λ there.
+      by-need-of (λ (row left : List ℕ). MayLookUp row) _ (ltb sample (l .samples)) 11 0 _ (λ s.
       found body-categories K file v p y l left w (λ (row left : List ℕ). MayLookUp row) (λ row left r.
       (l, r, ltb-true sample (l .samples) s, leb-true (l .samples) (length work) t)) there))))
 

@@ -1,4 +1,4 @@
--- Of a record 12 is refused at its end, and 13 to 18 at one of its bytes. `lo` is where the record starts.
+-- Of a record 12 is refused at its end, and 13 to 18 and 23 to 25 at one of its bytes. `lo` is where the record starts.
 -- Assumes nothing.
 use mathlib.Core.Path.{_≡_, refl, sym, ap, subst}
 use Prim.Native.Nat.{ℕ, zero, suc, _+_, _-_, _*_, _/_, _≤_, _<_}
@@ -95,8 +95,8 @@ module _ (lo end : ℕ) where
       → RefusalIs P (read-entry held parts least q sample value left next)
   unfolding read-entry
   entry-places held parts heads sizes least q sample value left next i some a b r =
-      is-need P (leb least sample) 16 q _ (λ t. at 16 q (λ e. omega arith) a b) (λ t.
-      is-need P (ltb sample (held .samples)) 16 q _ (λ u. at 16 q (λ e. omega arith) a b) (λ u.
+      is-need P (leb least sample) 23 q _ (λ t. at 23 q (λ e. omega arith) a b) (λ t.
+      is-need P (ltb sample (held .samples)) 24 q _ (λ u. at 24 q (λ e. omega arith) a b) (λ u.
       is-need P (held .may sample value) 17 (parts .sizes-end + (parts .count - suc (length left)) / 4) _ (λ v.
       at 17 (parts .sizes-end + (parts .count - suc (length left)) / 4) (λ e. omega arith) (omega (arith, i .sizes-start))
       (omega (arith, i .values-stop some))) (λ v.
@@ -136,8 +136,8 @@ module _ (lo end : ℕ) where
   entries-places held parts zero size before [] zs (v ∷ vs) bs i some l y = none 0 0 refl
   entries-places held parts zero size before (h ∷ hs) [] (v ∷ vs) bs i some l y = none 0 0 refl
   entries-places held parts zero size before (h ∷ hs) (z ∷ zs) (v ∷ vs) bs i some l y =
-      is-need P (eqb size (z + 63)) 16 (parts .sizes-end - suc (length zs)) _ (λ t.
-      at 16 (parts .sizes-end - suc (length zs)) (λ e. omega arith) (omega (arith, i .sizes-start)) (omega (arith, i .values-stop some))) (λ t.
+      is-need P (eqb size (z + 63)) 25 (parts .sizes-end - suc (length zs)) _ (λ t.
+      at 25 (parts .sizes-end - suc (length zs)) (λ e. omega arith) (omega (arith, i .sizes-start)) (omega (arith, i .values-stop some))) (λ t.
       entry-places held parts (suc (length hs)) (suc (length zs)) (suc before) (parts .heads-end - parts .width * suc (length hs)) h v vs _ i some
       (omega (arith, i .heads-start)) (omega (arith, i .heads-stop, i .values-stop some))
       (entries-places held parts 63 0 h hs zs vs bs (fewer parts (length hs) (length zs) i) some l y))

@@ -10,9 +10,9 @@ use native.Mathlib.Omega.{arith}
 use borrow.Author.Tests.{le-leb, lt-leb, lt-ltb, le-ltb}
 use Rattle.format.specs.declared.Refusal.{Refusal}
 use Rattle.format.specs.declared.Reply.the-variants.{Refused}
-use Rattle.format.specs.Base.{Bytes, Out, ok, refuse, refused, refusal}
+use Rattle.format.specs.Base.{Bytes, Out, ok, refuse, refused, refusal, named, refuse-of}
 use Rattle.format.specs.Limits.{variants-to-a-block}
-use Rattle.format.specs.Variant.{file-variant}
+use Rattle.format.specs.Variant.{file-variant, no-variant}
 use Rattle.format.specs.Layout.{fields-of, sum, first-record, Layout, LayoutObeys, fixed-of, record-start}
 use Rattle.format.specs.Header.{read-layout}
 use Rattle.format.specs.File.{read-variant}
@@ -25,7 +25,7 @@ use Rattle.head_index.proofs.StoredLaws.{stored-whole}
 use Rattle.call_rows.specs.declared.Rows.{Rows}
 use Rattle.call_rows.specs.Calls.{first-row, start-rows-call, state-checked, Left, row-left, answered, next-row-call}
 use Rattle.call_rows.proofs.Started.{FromStart, from-start}
-use Rattle.call_rows.proofs.StateLaws.{short-output, no-variant}
+use Rattle.call_rows.proofs.StateLaws.{short-output, not-below}
 use Rattle.call_rows.proofs.RecordLaws.{not-next, not-found}
 use Rattle.promises.proofs.StepIsRead.{state, Before, Stepped, steps}
 
@@ -92,6 +92,10 @@ module _ (file work₀ : List ℕ) (y : Bytes file) (l : Layout) (a : read-layou
         never-both t (stands-at K (l .types) (lit< tt) (obeys .types) (file-variant 0) (omega (arith, one-type-each K l obeys)) refl);
   }
 
+  -- 10 and 11 name no variant
+  abbrev none-named : ℕ → Refusal
+  none-named number = named (no-variant M) (refusal number 0)
+
   -- ---- calls that are refused leave the state
 
   module _ (v : ℕ) (rows : Rows) (work output : List ℕ) (k : Before l work₀ v rows work) where
@@ -104,13 +108,13 @@ module _ (file work₀ : List ℕ) (y : Bytes file) (l : Layout) (a : read-layou
     unfolding next-row-call
     stays-at why e = rw (k .state-is) (not-found st file file output work why (not-next st file file (length output) (length work) why e))
 
-    too-short : length output < N → row-left (answered rows (Refused (refusal 10 0))) output work ≡ next-row-call rows file output work
-    too-short h = stays-at (refusal 10 0) (short-output st (length output) (length work) (obeys .fixed .variants) (obeys .fixed .samples) h)
+    too-short : length output < N → row-left (answered rows (Refused (none-named 10))) output work ≡ next-row-call rows file output work
+    too-short h = stays-at (none-named 10) (short-output st (length output) (length work) (obeys .fixed .variants) (obeys .fixed .samples) h)
 
-    none-left : N ≤ length output → M ≤ v → row-left (answered rows (Refused (refusal 11 0))) output work ≡ next-row-call rows file output work
+    none-left : N ≤ length output → M ≤ v → row-left (answered rows (Refused (none-named 11))) output work ≡ next-row-call rows file output work
     none-left o h =
-        stays-at (refusal 11 0)
-        (no-variant st (length output) (length work) (obeys .fixed .variants) (obeys .fixed .samples) o (omega (arith, k .holds)) h)
+        stays-at (none-named 11)
+        (not-below st (length output) (length work) (obeys .fixed .variants) (obeys .fixed .samples) o (omega (arith, k .holds)) h)
 
     pub moves-on : v < M → N ≤ length output → Stepped l work₀ v output (read-variant K l (file-variant v)) (next-row-call rows file output work)
     unfolding next-row-call
@@ -129,10 +133,10 @@ module _ (file work₀ : List ℕ) (y : Bytes file) (l : Layout) (a : read-layou
           (ap (λ (z : Out Layout). given (λ (l : Layout). l .samples) 0 z) (sym a)),
     )
 
-    read-short : length output < N → read-out K file (file-variant v) output work₀ ≡ refuse 10 0
+    read-short : length output < N → read-out K file (file-variant v) output work₀ ≡ refuse-of (no-variant M) 10 0
     read-short h = simp (a, lt-leb N (length output) h)
 
-    read-none : N ≤ length output → M ≤ v → read-out K file (file-variant v) output work₀ ≡ refuse 11 0
+    read-none : N ≤ length output → M ≤ v → read-out K file (file-variant v) output work₀ ≡ refuse-of (no-variant M) 11 0
     read-none o h = simp (a, le-leb N (length output) o, le-leb N (length work₀) w₀, le-ltb v M h)
 
     read-one : N ≤ length output → v < M → read-out K file (file-variant v) output work₀ ≡ read-variant K l (file-variant v)
@@ -174,14 +178,14 @@ module _ (file work₀ : List ℕ) (y : Bytes file) (l : Layout) (a : read-layou
   gives v at output (within k) =
       split N (length output) (λ o.
       split M v (λ h.
-      refused-alike v at output (refusal 11 0) (none-left v (at .rows) (at .work) output k o h) (read-none v output o h)) (λ h.
+      refused-alike v at output (none-named 11) (none-left v (at .rows) (at .work) output k o h) (read-none v output o h)) (λ h.
       let s = moves-on v (at .rows) (at .work) output k h o in
       as-read v output (read-variant K l (file-variant v)) (read-one v output o h) (called file at output) (s .verdict-is) (s .output-is))) (λ h.
-      refused-alike v at output (refusal 10 0) (too-short v (at .rows) (at .work) output k h) (read-short v output h))
+      refused-alike v at output (none-named 10) (too-short v (at .rows) (at .work) output k h) (read-short v output h))
   gives v at output (beyond m k) =
       split N (length output) (λ o.
-      refused-alike v at output (refusal 11 0) (none-left M (at .rows) (at .work) output k o (omega arith)) (read-none v output o m)) (λ h.
-      refused-alike v at output (refusal 10 0) (too-short M (at .rows) (at .work) output k h) (read-short v output h))
+      refused-alike v at output (none-named 11) (none-left M (at .rows) (at .work) output k o (omega arith)) (read-none v output o m)) (λ h.
+      refused-alike v at output (none-named 10) (too-short M (at .rows) (at .work) output k h) (read-short v output h))
 
 -- The v-th call, counted from 0, gives what `read` of variant v gives: for every v, also past the last, and for every output, also a short one. Of the
 -- outputs lent before, each held N bytes: a call that is refused with 10 does not move on.

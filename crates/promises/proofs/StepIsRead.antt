@@ -40,6 +40,7 @@ use Rattle.call_rows.specs.declared.Rows.{Rows}
 use Rattle.call_rows.specs.Calls.{anchor-told, type-follows, next-record, Left, alone, leaning, read-at, over-nothing, over-anchor, stepped, next-row-in}
 use Rattle.call_rows.proofs.StateLaws.{state-fine}
 use Rattle.call_rows.proofs.RecordLaws.{record-there, next-is}
+use Rattle.read_record.specs.Recorded.{named-left}
 
 abbrev K : ℕ
 K = variants-to-a-block
@@ -146,8 +147,8 @@ module _ (index held : List ℕ) (y : Bytes held) (l : Layout) (a : Stored K ind
     over-row : (row : List ℕ) → read-at st held at row ≡ row-replied N row (read-over K l (take N row) here)
     unfolding over-as
     over-row row =
-        recorded-is located row
-        ∙ read-too N row (read-body (record-start K l (next-variant here)) N (take N row) (type-of l here) (getD (l .bodies) v []))
+        ap (named-left here) (recorded-is located row)
+        ∙ read-too N here row (read-body (record-start K l (next-variant here)) N (take N row) (type-of l here) (getD (l .bodies) v []))
 
     -- ---- what a step leaves
 

@@ -10,7 +10,7 @@ use native.Mathlib.Omega.{arith}
 use borrow.Author.Tests.{leb-true}
 use Rattle.format.specs.declared.FileVariant.{FileVariant}
 use Rattle.format.specs.declared.Refusal.{Refusal}
-use Rattle.format.specs.Base.{pick, Out, ok, refused, bind, need}
+use Rattle.format.specs.Base.{pick, Out, ok, refused, bind, need, need-of}
 use Rattle.format.specs.Classes.{among}
 use Rattle.format.specs.Layout.{Layout}
 use Rattle.format.specs.Header.{read-layout}
@@ -18,6 +18,7 @@ use Rattle.format.specs.Body.{Body, body-categories, body-phases}
 use Rattle.format.specs.File.{variant-as}
 use Rattle.format.specs.Reply.{refusal-of, given, emptied, work-after, samples-of, holds-row, holds-set, with-layout, checked, check-out, check-call}
 use Rattle.format.specs.Reply.{need-variant, out-as, read-as, read-call, phases-call, lookup-out, lookup-call, flip-out, flip-call}
+use Rattle.format.specs.Variant.{no-variant}
 use Rattle.format.proofs.Rules.{never-both, both}
 use Rattle.format.proofs.Refuses.{Refuses, HeaderNumber}
 use Rattle.format.proofs.HeaderRefusals.{header-refusals}
@@ -54,12 +55,13 @@ sized-for : {A : Type 0} (K : ℕ) (file : List ℕ) (sized : Layout → Bool) (
     → among unchanged-after (refusal-of (with-layout K file sized next) .number) ≡ false → samples-of K file ≤ length work
 sized-for K file sized next work room e = header (read-layout K file) (header-refusals K file) e
   where
-    buffers : (l : Layout) (b : Bool) → sized l ≡ b → among unchanged-after (refusal-of (need b 10 0 (next l)) .number) ≡ false → l .samples ≤ length work
+    buffers : (l : Layout) (b : Bool) → sized l ≡ b
+        → among unchanged-after (refusal-of (need-of (no-variant (length (l .bodies))) b 10 0 (next l)) .number) ≡ false → l .samples ≤ length work
     buffers l true t q = room l t
     buffers l false t q = never-both refl q
 
     header : (out : Out Layout) → Refuses HeaderNumber out
-        → among unchanged-after (refusal-of (bind out (λ l left. need (sized l) 10 0 (next l))) .number) ≡ false
+        → among unchanged-after (refusal-of (bind out (λ l left. need-of (no-variant (length (l .bodies))) (sized l) 10 0 (next l))) .number) ≡ false
         → given (λ (l : Layout). l .samples) 0 out ≤ length work
     header (ok l left) r q = buffers l (sized l) refl q
     header (refused why) r q = never-both (header-keeps-work (why .number) r) q

@@ -20,6 +20,7 @@ use Rattle.format.specs.Writer.{pair-track, kind-track, track-for, need-categor
 use Rattle.format.specs.Writer.{phased-body, write-phased}
 use Rattle.format.specs.Phase.{first-of, rest-of}
 use Rattle.format.specs.Reply.{refusal-of, write-call, write-phased-call}
+use Rattle.format.specs.Variant.{file-variant}
 use Rattle.format.proofs.Rules.{never-both, split}
 use Rattle.format.proofs.PhaseWriterLaws.{AllAllowed}
 use Rattle.promises.proofs.PhasedWriteExactly.{first-at, rest-at}
@@ -39,6 +40,8 @@ pub data AboveThree (categories anchor : List ℕ) (index : ℕ) : Type 0 where
 pub record WritePlaceIs (categories anchor : List ℕ) (why : Refusal) : Type 0 where
   pub at-zero : among (4 ∷ 10 ∷ 19 ∷ []) (why .number) ≡ true → why .place ≡ 0
   pub at-index : why .number ≡ 20 → AboveThree categories anchor (why .place)
+  -- 02, Ask 2: the variant is 0 "from a writer"
+  pub names-zero : why .variant ≡ file-variant 0
 
 -- 02, Ask 1: "a phase above 2 or a nonzero one outside category 1, at its index": the first such
 pub record FirstNotAllowed (categories phases : List ℕ) (index : ℕ) : Type 0 where
@@ -127,10 +130,10 @@ module _ (categories : List ℕ) (number code : ℕ) (anchor : List ℕ) (P : Re
 
 -- a refusal at 0, and one at an index
 at-zeroth : (categories anchor : List ℕ) (n : ℕ) → (n ≡ 20 → ⊥) → WritePlaceIs categories anchor (refusal n 0)
-at-zeroth categories anchor n e = record { at-zero = λ t. refl; at-index = λ q. absurd (e q) }
+at-zeroth categories anchor n e = record { at-zero = λ t. refl; at-index = λ q. absurd (e q); names-zero = refl }
 
 at-index-of : (categories anchor : List ℕ) (j : ℕ) → AboveThree categories anchor j → WritePlaceIs categories anchor (refusal 20 j)
-at-index-of categories anchor j a = record { at-zero = λ t. never-both t refl; at-index = λ q. a }
+at-index-of categories anchor j a = record { at-zero = λ t. never-both t refl; at-index = λ q. a; names-zero = refl }
 
 refusal-place : {A : Type 0} (P : Refusal → Type 0) → P (refusal 0 0) → (out : Out A) → RefusalIs P out → P (refusal-of out)
 refusal-place P none (ok a left) r = none
@@ -176,4 +179,7 @@ module _ (categories : List ℕ) (number code : ℕ) (anchor : List ℕ) where
       counted j f =
           let same : j ≡ 0 + j = omega arith in
           subst (λ (i : ℕ). PhasedPlaceIs categories phases anchor (refusal 22 i)) same (
-          record { as-before = record { at-zero = λ t. never-both t refl; at-index = λ q. absurd (omega arith) }; at-phase = λ q. f })
+          record {
+            as-before = record { at-zero = λ t. never-both t refl; at-index = λ q. absurd (omega arith); names-zero = refl };
+            at-phase = λ q. f;
+          })

@@ -12,12 +12,12 @@ use Rattle.format.specs.declared.Fields.{Fields}
 use Rattle.format.specs.declared.Refusal.{Refusal}
 use Rattle.format.specs.declared.Reply.{Reply}
 use Rattle.format.specs.declared.Reply.the-variants.{Accepted, Refused}
-use Rattle.format.specs.Base.{pick, Bytes, Out, ok, refused, bind, map-out}
+use Rattle.format.specs.Base.{pick, Bytes, Out, ok, refused, bind, map-out, naming}
 use Rattle.format.specs.Limits.{most-samples, variants-to-a-block}
 use Rattle.format.specs.Body.{type-leans, Body, read-body, body-categories}
 use Rattle.format.specs.Variant.{next-variant, anchor}
 use Rattle.format.specs.Layout.{Layout, LayoutObeys, record-start}
-use Rattle.format.specs.Reply.{emptied}
+use Rattle.format.specs.Reply.{emptied, named-reply}
 use Rattle.format.specs.File.{type-of, variant-leans, read-over, over-as, variant-as}
 use Rattle.format.proofs.AnchorLaws.{IsAnchor, anchor-is}
 use Rattle.format.proofs.FileLaws.{one-type-each}
@@ -28,7 +28,7 @@ use Rattle.head_places.specs.declared.Place.{Place}
 use Rattle.head_places.specs.Located.{HasLayout, HasVariant, HasLeaner, Located, Anchored}
 use Rattle.head_places.proofs.PartLaws.{part-inside}
 use Rattle.head_places.proofs.AcceptedLaws.{samples-few, below-in, located, anchored}
-use Rattle.read_record.specs.Recorded.{record-left, record-replied, recorded}
+use Rattle.read_record.specs.Recorded.{record-left, record-replied, recorded, named-left}
 use Rattle.read_record.proofs.BodyLaws.{reply-of, row-of}
 use Rattle.read_file.specs.Rows.{HasVariantRow, row-replied, anchor-left, AnchorRead}
 use Rattle.read_file.proofs.Cut.{body-is-bytes, kind-known, cut-end, cut-start, recorded-is}
@@ -37,10 +37,11 @@ use Rattle.read_file.proofs.Replies.{RowRead, row-accepted, row-refused
 abbrev K : ℕ
 K = variants-to-a-block
 
--- a record's categories in a row
-pub read-too : (N : ℕ) (row : List ℕ) (m : Out Body) → record-replied N row m ≡ row-replied N row (map-out (body-categories N (take N row)) m)
-read-too N row (ok body left) = refl
-read-too N row (refused why) = refl
+-- a record's categories in a row, or a refusal that names its variant
+pub read-too : (N : ℕ) (v : FileVariant) (row : List ℕ) (m : Out Body)
+    → named-left v (record-replied N row m) ≡ row-replied N row (map-out (body-categories N (take N row)) (naming v m))
+read-too N v row (ok body left) = refl
+read-too N v row (refused why) = refl
 
 -- a place, by any layout that index and data stand for
 abbrev pub at-layout : {index held : List ℕ} {f : Fields} {v : FileVariant} {p : Place} → HasLayout index held f → Located index held f v p
@@ -53,12 +54,12 @@ at-layout h g = record {
 
 -- ---- a record that was located, read over a row
 
--- what the code is told of it
+-- what the code is told of it, before its variant is named
 abbrev pub Told : List ℕ → Fields → Place → List ℕ → List ℕ → Reply → Type 0
-Told held f p row row₁ r = record-left r row₁ ≡ recorded (f .samples) (p .record_type) (take (p .end) held) (p .start) row
+Told held f p row row₁ got = record-left got row₁ ≡ recorded (f .samples) (p .record_type) (take (p .end) held) (p .start) row
 
-module _ {index held : List ℕ} {f : Fields} {v : FileVariant} {p : Place} (g : Located index held f v p) (row row₁ : List ℕ) (r : Reply)
-    (d : Told held f p row row₁ r) where
+module _ {index held : List ℕ} {f : Fields} {v : FileVariant} {p : Place} (g : Located index held f v p) (row row₁ : List ℕ) (got r : Reply)
+    (d : Told held f p row row₁ got) (n : r ≡ named-reply v got) where
   abbrev there : Layout
   there = g .has .layout
 
@@ -68,9 +69,9 @@ module _ {index held : List ℕ} {f : Fields} {v : FileVariant} {p : Place} (g :
   pub read-it : record-left r row₁ ≡ row-replied (there .samples) row (read-over K there anchored-row v)
   unfolding over-as
   read-it =
-      rw (samples-are (g .has .stored) (g .has .fields-are)) at d
-      ∙ recorded-is g row
-      ∙ read-too (there .samples) row
+      rw n
+      (ap (named-left v) (rw (samples-are (g .has .stored) (g .has .fields-are)) at d ∙ recorded-is g row))
+      ∙ read-too (there .samples) v row
       (read-body (record-start K there (next-variant v)) (there .samples) anchored-row (type-of there v) (getD (there .bodies) (v .0) []))
 
   -- one that leans on none is read alike over the row and over nothing
@@ -154,8 +155,8 @@ module _ {index held : List ℕ} {f : Fields} {v : FileVariant} {row : List ℕ}
 
   -- its anchor x, which was located and read
   pub some-lent : Bytes held → t ≡ true → {x : FileVariant} → Anchored index held f v x → {q : Place} → Located index held f x q
-      → (row₁ : List ℕ) (r : Reply) → Told held f q row row₁ r → AnchorRead index held f v row r row₁
-  some-lent y s {x} a {q} e row₁ r d =
+      → (row₁ : List ℕ) (got r : Reply) → Told held f q row row₁ got → r ≡ named-reply x got → AnchorRead index held f v row r row₁
+  some-lent y s {x} a {q} e row₁ got r d n =
       let l : Layout = h .has .has .layout in
       let o : LayoutObeys K l = h .has .has .stored .obeys in
       let leaner : variant-leans l v ≡ true = leans-as ∙ s in
@@ -163,7 +164,7 @@ module _ {index held : List ℕ} {f : Fields} {v : FileVariant} {row : List ℕ}
       let is : IsAnchor K (l .types) v x
       = rw x-is (anchor-is K (l .types) (lit< tt) (o .types) v (omega (arith, one-type-each K l o, below-in (h .has .has) (h .has .below))) leaner) in
       let read : record-left r row₁ ≡ row-replied (l .samples) row (read-over K l [] x)
-      = over-nothing (at-layout (h .has .has) e) row row₁ r d y (is .stands) in
+      = over-nothing (at-layout (h .has .has) e) row row₁ got r d n y (is .stands) in
       record { has = h .has; is = rw leaner (read ∙ ap (λ (z : FileVariant). row-replied (l .samples) row (read-over K l [] z)) x-is) }
 
 pub ruleset anchor-laws = (known-bytes, few, part-inside, cut-end, cut-start, kind-known, anchor-has, leans-there, none-lent, some-lent)

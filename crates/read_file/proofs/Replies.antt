@@ -72,7 +72,7 @@ module _ (N : ℕ) (row row₁ : List ℕ) (r : Reply) (m : Out (List ℕ)) (d :
   pub row-refused : (why : Refusal) → r ≡ Refused why → m ≡ refused why
   row-refused why q = was-refused m why (sym (row-reply m) ∙ sym (ap reply-of d) ∙ q)
 
--- ---- what a caller learns. 01, Replies: "after every other reply its first N bytes are zero and the rest unchanged": so after 12 to 18
+-- ---- what a caller learns. 01, Replies: "after every other reply its first N bytes are zero and the rest unchanged": so after 12 to 18 and 23 to 25
 
 -- why a reading was refused, and that the work area is cleared then
 pub record Clears {A : Type 0} (m : Out A) (why : Refusal) : Type 0 where

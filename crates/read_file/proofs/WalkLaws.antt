@@ -6,7 +6,7 @@ use Prim.Native.Nat.{ℕ, zero, suc, _+_, _≤_, _<_}
 use native.Mathlib.Nat.{add-zero}
 use mathlib.Core.List.{List, [], _++_}
 use mathlib.Core.Logic.{_⊎_, ⊎-elim}
-use lib.ListN.{length, take, drop, replicate}
+use lib.ListN.{length, take, drop, replicate, getD}
 use lib.Dec.{lit<}
 use mir.Syntax.{w64}
 use mir.Val.{Fits}
@@ -16,13 +16,13 @@ use Rattle.format.specs.declared.Fields.{Fields}
 use Rattle.format.specs.declared.Refusal.{Refusal}
 use Rattle.format.specs.declared.Reply.{Reply}
 use Rattle.format.specs.declared.Reply.the-variants.{Accepted, Refused}
-use Rattle.format.specs.Base.{pick, Bytes, Out, ok, refused}
+use Rattle.format.specs.Base.{pick, Bytes, Out, ok, refused, naming, named}
 use Rattle.format.specs.Limits.{most-samples, most-variants, variants-to-a-block}
 use Rattle.format.specs.Body.{kind-of, type-leans, Body, read-body, body-categories}
 use Rattle.format.specs.Variant.{file-variant}
 use Rattle.format.specs.Layout.{sum, first-record, Layout, LayoutObeys, fixed-of, record-start}
 use Rattle.format.specs.Reply.{emptied}
-use Rattle.format.specs.File.{next-anchor, read-all, variant-leans}
+use Rattle.format.specs.File.{next-anchor, read-all, variant-leans, type-of}
 use Rattle.format.proofs.OffsetsLaws.{from-1-to-positive}
 use Rattle.format.proofs.AnchorLaws.{stands-at}
 use Rattle.format.proofs.FileLaws.{one-type-each}
@@ -150,6 +150,10 @@ module _ {index held : List ℕ} {f : Fields} {row₀ row : List ℕ} {start v t
 
     module _ (row₁ : List ℕ) (r : Reply) (after : ℕ)
         (d : record-left r row₁ ≡ next-checked (f .samples) type after (take (start + size) held) start row) where
+      -- the record, and a refusal of it that names its variant
+      abbrev plain : Out Body
+      plain = read-body (record-start K l (file-variant (suc v))) N (take N row) (type-of l here) (getD (l .bodies) v [])
+
       abbrev body : Out Body
       body = record-over K l v (take N row)
 
@@ -157,19 +161,19 @@ module _ {index held : List ℕ} {f : Fields} {row₀ row : List ℕ} {start v t
       abbrev read : Out Body
       read = read-body (length (take (start + size) held)) (f .samples) (take (f .samples) row) type (drop start (take (start + size) held))
 
-      read-as : read ≡ body
+      read-as : read ≡ plain
       read-as =
           ap (λ (n : ℕ). read-body (length (take (start + size) held)) n (take n row) type (drop start (take (start + size) held))) samples-there
           ∙ body-is there (take N row)
 
-      found : r ≡ replied body
+      found : r ≡ replied plain
       found = next-reply (f .samples) type after (take (start + size) held) start row r row₁ d ∙ ap replied read-as
 
       -- what is left then
       turn : outcome (read-all K l) ≡ then-check K l v (take N row) body
       turn = sym (w .left-is) ∙ turn-check K l v (take N row) obeyed (below-in (w .has) m)
 
-      module _ (x : WasRead Body body) where
+      module _ (x : WasRead Body plain) where
         -- the row that those after it lean on, and what there is of it
         abbrev made : List ℕ
         made = row-after K l (lit< tt) obeyed v row (x .value)
@@ -184,7 +188,7 @@ module _ {index held : List ℕ} {f : Fields} {row₀ row : List ℕ} {start v t
             (next-row (f .samples) type after (take (start + size) held) start row r row₁ d (x .value) (x .left) (read-as ∙ x .is)))
 
         carried : (take N made ≡ next-anchor (variant-leans l here) (take N row) (body-categories N (take N row) (x .value))) × (drop N made ≡ drop N row)
-        carried = row-carried K l (lit< tt) obeyed v row (x .value) (x .left) (body-is-bytes (w .has) (w .bytes) v) (x .is)
+        carried = row-carried K l (lit< tt) obeyed v row (x .value) (x .left) (body-is-bytes (w .has) (w .bytes) v) (ap (naming here) (x .is))
 
         -- what stands behind stays
         behind : drop N row₁ ≡ drop N row
@@ -210,7 +214,7 @@ module _ {index held : List ℕ} {f : Fields} {row₀ row : List ℕ} {start v t
       pub check-goes-on : TypeIfAny index f (file-variant (v + 1)) after → r ≡ Accepted → length row₁ ≡ length row
           → Checking index held f row₀ row₁ (start + size) (v + 1) after
       check-goes-on t q g =
-          let x : WasRead Body body = was-accepted body (sym found ∙ q) in
+          let x : WasRead Body plain = was-accepted plain (sym found ∙ q) in
           let next : v + 1 ≡ suc v = omega arith in
           record {
             bytes = w .bytes;
@@ -220,7 +224,7 @@ module _ {index held : List ℕ} {f : Fields} {row₀ row : List ℕ} {start v t
             type-is = t;
             left-is =
                 rw next
-                (over-either x t ∙ ap (left-to-check K l (suc v)) (carried x .0) ∙ sym (turn ∙ ap (then-check K l v (take N row)) (x .is)));
+                (over-either x t ∙ ap (left-to-check K l (suc v)) (carried x .0) ∙ sym (turn ∙ ap (λ (m : Out Body). then-check K l v (take N row) (naming here m)) (x .is)));
             rest-is = behind x ∙ w .rest-is;
             variants = w .variants;
             samples = w .samples;
@@ -229,14 +233,15 @@ module _ {index held : List ℕ} {f : Fields} {row₀ row : List ℕ} {start v t
           }
 
       -- the row is emptied then
-      pub check-stops : (why : Refusal) → r ≡ Refused why → (last : List ℕ) → last ≡ emptied (f .samples) row₁
-          → RecordsChecked index held f row₀ (Refused why) last
-      check-stops why q last g =
-          let x : body ≡ refused why = was-refused body why (sym found ∙ q) in
+      pub check-stops : (why later : Refusal) → r ≡ Refused why → later ≡ named here why → (last : List ℕ) → last ≡ emptied (f .samples) row₁
+          → RecordsChecked index held f row₀ (Refused later) last
+      check-stops why later q n last g =
+          let x : plain ≡ refused why = was-refused plain why (sym found ∙ q) in
           let behind : drop N row₁ ≡ drop N row
           = subst (λ (n : ℕ). drop n row₁ ≡ drop n row) samples-there
           (next-rest (f .samples) type after (take (start + size) held) start row r row₁ d why (read-as ∙ x)) in
-          settled (refused why) (turn ∙ ap (then-check K l v (take N row)) x) row₁ last (behind ∙ w .rest-is) g
+          settled (refused later) (turn ∙ ap (λ (m : Out Body). then-check K l v (take N row) (naming here m)) x ∙ ap refused (sym n)) row₁ last
+          (behind ∙ w .rest-is) g
 
 pub ruleset check-laws =
     (known-bytes, some-variants, check-starts, end-fits, end-is, body-inside, kind-there, check-goes-on, check-stops, check-ends)

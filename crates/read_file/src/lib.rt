@@ -10,6 +10,8 @@ use base_rows::clear;
 use format::Fields;
 use format::FileVariant;
 use format::Reply;
+use format::named;
+use format::named_reply;
 use head_blocks::first_record;
 use head_places::Place;
 use head_places::anchor_of;
@@ -52,7 +54,7 @@ pub fn check_records(index: &[u8], held: &[u8], f: Fields, row: &mut [u8]) -> Re
         match got {
             Reply::Refused(why) => {
                 clear(row, n);
-                return Reply::Refused(why);
+                return Reply::Refused(named(FileVariant(v), why));
             }
             Reply::Accepted => {
                 start = end;
@@ -79,10 +81,12 @@ fn read_anchor(
     ensures { λ r. ⌜ AnchorRead (now (index .entry)) (now (held .entry)) f v (now (row .entry)) r (now (row .exit)) ⌝ }
 {
     if type_leans(p.record_type) {
-        let a = place_of(index, held, f, anchor_of(index, held, f, v));
+        let anchor = anchor_of(index, held, f, v);
+        let a = place_of(index, held, f, anchor);
         let end = a.end;
         let there = Cursor { at: a.start };
-        return read_body(&held[..end], there, f.samples, a.record_type, row);
+        let got = read_body(&held[..end], there, f.samples, a.record_type, row);
+        return named_reply(anchor, got);
     }
     Reply::Accepted
 }
@@ -98,7 +102,10 @@ pub fn read_row(index: &[u8], held: &[u8], f: Fields, v: FileVariant, row: &mut 
     let lent = read_anchor(index, held, f, v, p, row);
     match lent {
         Reply::Refused(why) => Reply::Refused(why),
-        Reply::Accepted => read_body(&held[..end], here, f.samples, p.record_type, row),
+        Reply::Accepted => {
+            let got = read_body(&held[..end], here, f.samples, p.record_type, row);
+            named_reply(v, got)
+        }
     }
 }
 
@@ -122,6 +129,9 @@ pub fn read_phases(
     let lent = read_anchor(index, held, f, v, p, row);
     match lent {
         Reply::Refused(why) => Reply::Refused(why),
-        Reply::Accepted => read_phased(&held[..end], here, f.samples, p.record_type, row, output),
+        Reply::Accepted => {
+            let got = read_phased(&held[..end], here, f.samples, p.record_type, row, output);
+            named_reply(v, got)
+        }
     }
 }

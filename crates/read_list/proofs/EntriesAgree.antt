@@ -216,7 +216,7 @@ module _ (l : List ℕ) (y : (i : ℕ) → getD l i 0 < 256) (n : ℕ) (held : L
             let q : vals - suc (length (numbers-of g 1 l (st .size .at + 1))) ≡ st .size .at
             = rw (numbers-many g 1 l (st .size .at + 1)) (omega (arith, w .sizes-end)) in
             rw (is-head l n st (w .left-is), ← is-wrong l n st some _ refl (λ o. e (omega (arith, w .so-far))) _ refl)
-            (simp (ne-eqb acc (group-bytes l st) e, q) (size-refused (refusal 16 (st .size .at)) work m))
+            (simp (ne-eqb acc (group-bytes l st) e, q) (size-refused (refusal 25 (st .size .at)) work m))
       ]
   walk-agrees (suc m) (suc c) g acc st work w =
       rw (is-step l n st (λ o. omega (arith, w .left-is)))

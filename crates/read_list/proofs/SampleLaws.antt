@@ -31,10 +31,10 @@ use Rattle.read_list.proofs.NumberLaws.{Known, InMemory, wide, narrow}
 -- ---- a sample's two tests
 
 module _ (n least q : ℕ) (st : State) where
-  reach-low : st .last < least → Refused (refusal 16 q) ≡ reach n least q st
+  reach-low : st .last < least → Refused (refusal 23 q) ≡ reach n least q st
   reach-low h = simp (lt-leb least (st .last) h)
 
-  reach-high : least ≤ st .last → n ≤ st .last → Refused (refusal 16 q) ≡ reach n least q st
+  reach-high : least ≤ st .last → n ≤ st .last → Refused (refusal 24 q) ≡ reach n least q st
   reach-high h g = simp (le-leb least (st .last) h, le-ltb (st .last) n g)
 
   reach-on : least ≤ st .last → st .last < n → On st ≡ reach n least q st
@@ -51,12 +51,12 @@ module _ (l : List ℕ) (n least : ℕ) (size : Cursor) (st : State) (w : ℕ) (
   unfolding take-head
   head-is = rw (e, f)
 
-  module _ (why : Refusal) (q : why ≡ refusal 16 (st .head .at)) where
-    pub head-low : read .value < least → Refused why ≡ take-head l n least size st
-    head-low h = rw q (reach-low n least (st .head .at) there h ∙ head-is)
+  module _ (why : Refusal) where
+    pub head-low : why ≡ refusal 23 (st .head .at) → read .value < least → Refused why ≡ take-head l n least size st
+    head-low q h = rw q (reach-low n least (st .head .at) there h ∙ head-is)
 
-    pub head-high : least ≤ read .value → n ≤ read .value → Refused why ≡ take-head l n least size st
-    head-high h g = rw q (reach-high n least (st .head .at) there h g ∙ head-is)
+    pub head-high : why ≡ refusal 24 (st .head .at) → least ≤ read .value → n ≤ read .value → Refused why ≡ take-head l n least size st
+    head-high q h g = rw q (reach-high n least (st .head .at) there h g ∙ head-is)
 
   pub head-on : least ≤ read .value → read .value < n → On there ≡ take-head l n least size st
   head-on h g = reach-on n least (st .head .at) there h g ∙ head-is
@@ -75,12 +75,12 @@ module _ (l : List ℕ) (n : ℕ) (st : State) (r : VarintStep) (e : r ≡ varin
     unfolding take-step
     step-is = rw (← e, q)
 
-    module _ (why : Refusal) (f : why ≡ refusal 16 (st .at .at)) where
-      pub step-zero : d ≡ 0 → Refused why ≡ take-step (varint-at l (st .at .at)) n st
-      step-zero z = rw f (reach-low n (suc (st .last)) (st .at .at) (moved d c st) (omega arith) ∙ step-is)
+    module _ (why : Refusal) where
+      pub step-zero : why ≡ refusal 23 (st .at .at) → d ≡ 0 → Refused why ≡ take-step (varint-at l (st .at .at)) n st
+      step-zero f z = rw f (reach-low n (suc (st .last)) (st .at .at) (moved d c st) (omega arith) ∙ step-is)
 
-      pub step-far : (d ≡ 0 → ⊥) → n - st .last ≤ d → Refused why ≡ take-step (varint-at l (st .at .at)) n st
-      step-far z h = rw f (reach-high n (suc (st .last)) (st .at .at) (moved d c st) (omega arith) (omega arith) ∙ step-is)
+      pub step-far : why ≡ refusal 24 (st .at .at) → (d ≡ 0 → ⊥) → n - st .last ≤ d → Refused why ≡ take-step (varint-at l (st .at .at)) n st
+      step-far f z h = rw f (reach-high n (suc (st .last)) (st .at .at) (moved d c st) (omega arith) (omega arith) ∙ step-is)
 
     pub step-on : (d ≡ 0 → ⊥) → d < n - st .last → On (moved d c st) ≡ take-step (varint-at l (st .at .at)) n st
     step-on z h = reach-on n (suc (st .last)) (st .at .at) (moved d c st) (omega arith) (omega arith) ∙ step-is
@@ -103,7 +103,7 @@ module _ (l : List ℕ) (n : ℕ) (st : State) where
     value-is : read .value + 63 ≡ group-bytes l st
     value-is = rw e
 
-    pub is-wrong : (st .at .at ≡ st .from .at + (read .value + 63) → ⊥) → (why : Refusal) → why ≡ refusal 16 (st .size .at) → Refused why ≡ next-head l n st
+    pub is-wrong : (st .at .at ≡ st .from .at + (read .value + 63) → ⊥) → (why : Refusal) → why ≡ refusal 25 (st .size .at) → Refused why ≡ next-head l n st
     unfolding next-head
     is-wrong s why f = rw f (simp (ne-eqb (st .passed) 0 k, ne-eqb (st .at .at) (st .from .at + group-bytes l st) (rw value-is at s)))
 

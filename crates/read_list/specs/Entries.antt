@@ -46,9 +46,10 @@ moved step next st =
     record { room = st .room - 1; from = st .from; last = st .last + step; head = st .head; size = st .size; passed = st .passed; at = next }
 
 -- 01, Difference lists: "Sample numbers rise strictly through the whole list and are below N." On to st, whose sample, read at q, is to be `least` or more.
+-- 02, Ask 2: "23 is a number not rising, 24 a number not below N, 25 a size byte"
 abbrev pub reach : ℕ → ℕ → ℕ → State → EntryStep
 reach n least q st =
-    pick (leb least (st .last)) (pick (ltb (st .last) n) (entry.On st) (entry.Refused (refusal 16 q))) (entry.Refused (refusal 16 q))
+    pick (leb least (st .last)) (pick (ltb (st .last) n) (entry.On st) (entry.Refused (refusal 24 q))) (entry.Refused (refusal 23 q))
 
 -- the head of a group; the size byte of the group before has been passed, and the next stands at `size`
 unfoldable pub take-head : List ℕ → ℕ → ℕ → Cursor → State → EntryStep
@@ -69,7 +70,7 @@ next-head l n st =
     pick (eqb (st .passed) 0) (take-head l n 0 (st .size) st)
     (pick (eqb (st .at .at) (st .from .at + group-bytes l st))
     (take-head l n (suc (st .last)) (cursor-at (st .size .at + 1)) st)
-    (entry.Refused (refusal 16 (st .size .at))))
+    (entry.Refused (refusal 25 (st .size .at))))
 
 -- the next sample: a head, or a step
 unfoldable pub next-sample : List ℕ → ℕ → State → EntryStep

@@ -1,5 +1,5 @@
 // The entries of a difference list, one after another: 01, Replies: "entry by entry its varint (12, 15), its number (16), its value (17), and
-// after each group but the last its size byte (16)".
+// after each group but the last its size byte (16)". 02, Ask 2: "23 is a number not rising, 24 a number not below N, 25 a size byte".
 use crate::EntryStep;
 use crate::ListRule;
 use crate::ListStep;
@@ -48,10 +48,10 @@ fn take_head(s: &[u8], n: usize, least: usize, size: Cursor, st: State) -> Entry
     let read = head.number(s, number_width(n));
     let last = read.value;
     if last < least {
-        return EntryStep::Refused(refusal_at(16, place));
+        return EntryStep::Refused(refusal_at(23, place));
     }
     if last >= n {
-        return EntryStep::Refused(refusal_at(16, place));
+        return EntryStep::Refused(refusal_at(24, place));
     }
     let passed = st.passed;
     let at = st.at;
@@ -79,10 +79,10 @@ pub fn take_step(s: &[u8], n: usize, st: State) -> EntryStep
         VarintStep::Refused(why) => EntryStep::Refused(why),
         VarintStep::Value(step, next) => {
             if step == 0 {
-                return EntryStep::Refused(refusal_at(16, here.at));
+                return EntryStep::Refused(refusal_at(23, here.at));
             }
             if step >= n - last {
-                return EntryStep::Refused(refusal_at(16, here.at));
+                return EntryStep::Refused(refusal_at(24, here.at));
             }
             let mut there = st;
             there.room = st.room - 1;
@@ -103,7 +103,7 @@ pub fn next_head(s: &[u8], n: usize, st: State) -> EntryStep
     if st.passed != 0 {
         let read = size.number(s, 1);
         if st.at.at != st.from.at + (read.value + 63) {
-            return EntryStep::Refused(refusal_at(16, size.at));
+            return EntryStep::Refused(refusal_at(25, size.at));
         }
         least = st.last + 1;
         size = read.next;

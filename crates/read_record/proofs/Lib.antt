@@ -7,3 +7,4 @@ pub mod BodyLaws
 pub mod EndLaws
 pub mod TracksLaws
 pub mod PhasedLaws
+pub mod NamedLaws

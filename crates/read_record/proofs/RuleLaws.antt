@@ -36,7 +36,7 @@ module _ (n : ℕ) (may may′ : ℕ → ℕ → Bool) (agree : (sample value : 
   entries-same parts zero size before [] zs (v ∷ vs) bs = refl
   entries-same parts zero size before (h ∷ hs) [] (v ∷ vs) bs = refl
   entries-same parts zero size before (h ∷ hs) (z ∷ zs) (v ∷ vs) bs =
-      ap (need (eqb size (z + 63)) 16 (parts .sizes-end - suc (length zs)))
+      ap (need (eqb size (z + 63)) 25 (parts .sizes-end - suc (length zs)))
       (entry-same parts (suc before) _ h v vs _ _ (entries-same parts 63 0 h hs zs vs bs))
   entries-same parts (suc room) size before hs zs (v ∷ vs) bs =
       bind-same (read-varint (parts .end) bs) _ _ (λ step left.

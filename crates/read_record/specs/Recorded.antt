@@ -10,7 +10,8 @@ use Rattle.format.specs.Base.{pick, Out, ok, refused, refusal}
 use Rattle.format.specs.Track.{Track, read-track, track-categories}
 use Rattle.format.specs.Phase.{Phases, read-phases}
 use Rattle.format.specs.Body.{kind-of, type-phased, Body, read-after, read-body, body-categories, body-phases}
-use Rattle.format.specs.Reply.{emptied}
+use Rattle.format.specs.Reply.{named-reply, emptied}
+use Rattle.format.specs.declared.FileVariant.{FileVariant}
 use Rattle.format.specs.declared.Reply.{Reply}
 use Rattle.format.specs.declared.Reply.the-variants.{Accepted, Refused}
 use Rattle.base_cursor.specs.Steps.{before}
@@ -59,6 +60,10 @@ tracks-read n type l start row = main-replied (length l) n type row (read-track 
 pub data RecordLeft : Type 0 where
   record-left : Reply → List ℕ → RecordLeft
 
+-- 02, Ask 2: a refusal names "the variant in whose record or type the fault lies"
+abbrev pub named-left : FileVariant → RecordLeft → RecordLeft
+named-left v (record-left reply row) = record-left (named-reply v reply) row
+
 -- an accepted record's categories stand in the row's first n bytes; after a refusal they are zero
 abbrev pub record-replied : ℕ → List ℕ → Out Body → RecordLeft
 record-replied n row (ok body left) = record-left Accepted (body-categories n (take n row) body ++ drop n row)
@@ -82,6 +87,9 @@ after-put n type l at row output = pick (type-phased type) (phases-put n l at ro
 -- a reply, with what the row and the output then hold
 pub data PhasedLeft : Type 0 where
   phased-left : Reply → List ℕ → List ℕ → PhasedLeft
+
+abbrev pub named-phased : FileVariant → PhasedLeft → PhasedLeft
+named-phased v (phased-left reply row output) = phased-left (named-reply v reply) row output
 
 -- 02, Ask 1: "A new reading fills N bytes": an accepted record's phases stand in the output's first n bytes; after a refusal it is as it was
 abbrev pub phased-replied : ℕ → List ℕ → List ℕ → Out Body → PhasedLeft

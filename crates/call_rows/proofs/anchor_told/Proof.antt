@@ -11,4 +11,6 @@ anchor-told-spec =
     (tie.spec
     (λ c. search (told-laws, needs))
     (λ c. search (told-laws, needs))
+    (λ c. search (told-laws, needs))
+    (λ c. search (told-laws, needs))
     (λ c. search (told-laws, needs)))

@@ -12,4 +12,5 @@ leaning-checked-spec =
     (λ c. search (checked-laws, needs))
     (λ c. search (checked-laws, needs))
     (λ c κs. search (checked-laws, needs))
+    (λ c κs. search (checked-laws, needs))
     (λ c. search (checked-laws, needs)))

@@ -11,6 +11,7 @@ step-alone-spec =
     (tie.spec
     (λ c. search (step-laws, needs))
     (λ c κs. search (step-laws, needs))
+    (λ c κs. search (step-laws, needs))
     (λ c. search (step-laws, needs))
     (λ c κs. search (step-laws, needs))
     (λ c. search (step-laws, needs))

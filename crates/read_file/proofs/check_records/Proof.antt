@@ -29,6 +29,7 @@ check-records-spec =
     (λ c κs. search (check-laws, needs))
     (λ c. search (check-laws, needs))
     (λ c κs. search (check-laws, needs))
+    (λ c κs. search (check-laws, needs))
     (λ c. search (check-laws, needs))
     (λ c. search (check-laws, needs))
     (λ c. search (check-laws, needs))

@@ -14,6 +14,7 @@ read-anchor-spec =
     (λ c κs. search (anchor-laws, needs))
     (λ c. search (anchor-laws, needs))
     (λ c κs. search (anchor-laws, needs))
+    (λ c κs. search (anchor-laws, needs))
     (λ c. search (anchor-laws, needs))
     (λ c. search (anchor-laws, needs))
     (λ c. search (anchor-laws, needs)))

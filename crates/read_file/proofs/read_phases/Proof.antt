@@ -15,6 +15,7 @@ read-phases-spec =
     (λ c. search (phases-laws, needs))
     (λ c. search (phases-laws, needs))
     (λ c κs. search (phases-laws, needs))
+    (λ c κs. search (phases-laws, needs))
     (λ c. search (phases-laws, needs))
     (λ c. search (phases-laws, needs))
     (λ c. search (phases-laws, needs))

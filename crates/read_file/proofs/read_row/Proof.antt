@@ -15,6 +15,7 @@ read-row-spec =
     (λ c. search (row-laws, needs))
     (λ c. search (row-laws, needs))
     (λ c κs. search (row-laws, needs))
+    (λ c κs. search (row-laws, needs))
     (λ c. search (row-laws, needs))
     (λ c. search (row-laws, needs))
     (λ c. search (row-laws, needs))

@@ -11,6 +11,7 @@ phased-alone-spec =
     (tie.spec
     (λ c. search (phased-step-laws, needs))
     (λ c κs. search (phased-step-laws, needs))
+    (λ c κs. search (phased-step-laws, needs))
     (λ c. search (phased-step-laws, needs))
     (λ c κs. search (phased-step-laws, needs))
     (λ c. search (phased-step-laws, needs))
