@@ -17,7 +17,7 @@ use Rattle.format.specs.declared.HeaderReply.{HeaderReply}
 use Rattle.format.specs.declared.HeaderReply.the-variants as header
 use Rattle.format.specs.declared.Reply.{Reply}
 use Rattle.format.specs.declared.Reply.the-variants.{Accepted, Refused}
-use Rattle.format.specs.Base.{Out, ok, refused, refusal, bind, need, need-of, named}
+use Rattle.format.specs.Base.{Out, ok, refused, refusal, bind, need-of, named}
 use Rattle.format.specs.Limits.{variants-to-a-block}
 use Rattle.format.specs.Body.{Body}
 use Rattle.format.specs.Layout.{fields-of, Layout, fixed-of}

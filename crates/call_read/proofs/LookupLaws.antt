@@ -16,7 +16,7 @@ use Rattle.format.specs.declared.HeaderReply.the-variants as header
 use Rattle.format.specs.declared.Reply.{Reply}
 use Rattle.format.specs.declared.Reply.the-variants as done
 use Rattle.format.specs.declared.LookupReply.the-variants.{Category, Refused}
-use Rattle.format.specs.Base.{Out, refusal, bind, need, need-of, named}
+use Rattle.format.specs.Base.{Out, refusal, bind, need-of, named}
 use Rattle.format.specs.Limits.{variants-to-a-block}
 use Rattle.format.specs.Layout.{Layout}
 use Rattle.format.specs.File.{read-variant}

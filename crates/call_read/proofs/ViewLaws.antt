@@ -12,7 +12,7 @@ use Rattle.format.specs.declared.Fields.{Fields}
 use Rattle.format.specs.declared.Refusal.{Refusal}
 use Rattle.format.specs.declared.HeaderReply.{HeaderReply}
 use Rattle.format.specs.declared.HeaderReply.the-variants.{Accepted, Refused}
-use Rattle.format.specs.Base.{Bytes, Out, ok, refused, bind, need, need-of}
+use Rattle.format.specs.Base.{Bytes, Out, ok, refused, bind, need-of}
 use Rattle.format.specs.Limits.{most-samples, variants-to-a-block}
 use Rattle.format.specs.Layout.{Layout, record-start}
 use Rattle.format.specs.Header.{read-layout}

@@ -12,14 +12,14 @@ use Rattle.format.specs.declared.BlockVariant.{BlockVariant}
 use Rattle.format.specs.declared.Reply.{Reply}
 use Rattle.format.specs.declared.Reply.the-variants.{Accepted, Refused}
 use Rattle.format.specs.declared.Refusal.{Refusal}
-use Rattle.format.specs.Base.{pick, Out, ok, refuse, refused, bind, refuse-of}
+use Rattle.format.specs.Base.{pick, Out, ok, refused, bind, refuse-of}
 use Rattle.format.specs.Limits.{variants-to-a-block}
 use Rattle.format.specs.Body.{type-leans}
 use Rattle.format.specs.Variant.{in-block, no-variant}
 use Rattle.format.specs.Layout.{unblocked, fixed-type, type-allowed}
 use Rattle.format.specs.Header.{type-place}
 use Rattle.format.specs.Reply.{plain-answer}
-use Rattle.format.proofs.Rules.{Holds, by-need, by-bind, never-both, both, by-need-of}
+use Rattle.format.proofs.Rules.{Holds, by-bind, never-both, both, by-need-of}
 use Rattle.head_index.specs.VariantsAt.{type-at}
 use Rattle.head_blocks.specs.Parts.{fixed}
 use Rattle.head_blocks.proofs.Answers.{holds}

@@ -16,7 +16,7 @@ use Rattle.format.specs.Variant.{in-block}
 use Rattle.format.specs.Layout.{from-1-to, type-allowed}
 use Rattle.format.specs.Header.{read-layout}
 use Rattle.format.specs.Reply.{keeps-work, holds-row}
-use Rattle.format.proofs.Rules.{Holds, by-test, by-need, by-bind, both, never-both, below-take, below-drop, by-need-of}
+use Rattle.format.proofs.Rules.{Holds, by-test, by-bind, both, never-both, below-take, below-drop, by-need-of}
 use Rattle.format.proofs.Unique.{apart}
 use Rattle.format.proofs.Refuses.{Refuses, Among, RecordNumber, class-holds, refuses-wider, refuses-need, refuses-then, refuses-need-of}
 use Rattle.format.proofs.Refusals.{body-refusals, allowed-kind}

@@ -8,7 +8,7 @@ use lib.ListN.{length}
 use lib.Dec.{lit<}
 use native.Mathlib.Omega.{arith}
 use borrow.Author.Tests.{leb-true}
-use Rattle.format.specs.Base.{Bytes, Out, ok, refused, bind, need, need-of}
+use Rattle.format.specs.Base.{Bytes, Out, ok, refused, bind, need-of}
 use Rattle.format.specs.Limits.{variants-to-a-block}
 use Rattle.format.specs.Layout.{fields-of, Layout, fixed-of}
 use Rattle.format.specs.Header.{read-layout}
@@ -35,6 +35,7 @@ from-start file work rows y e = go (read-layout variants-to-a-block file) refl (
     sized l a false h q = absurd (let z : _≡_ {A = ℕ} 0 1 = cc in omega arith)
 
     go : (m : Out Layout) → read-layout variants-to-a-block file ≡ m → Holds (IsLayout variants-to-a-block file) m
-        → bind m (λ l left. need-of (no-variant (length (l .bodies))) (holds-row work l) 10 0 (ok (first-row (fields-of (fixed-of l))) [])) ≡ ok rows [] → FromStart file work rows
+        → bind m (λ l left. need-of (no-variant (length (l .bodies))) (holds-row work l) 10 0 (ok (first-row (fields-of (fixed-of l))) [])) ≡ ok rows []
+        → FromStart file work rows
     go (ok l left) a w q = sized l (a ∙ ap (ok l) (w .ended)) (holds-row work l) refl q
     go (refused why) a w q = absurd (let z : _≡_ {A = ℕ} 0 1 = cc in omega arith)

@@ -1,6 +1,6 @@
 -- The ways out of the check of a state, what is known where it is accepted, and whether it tells of an anchor.
 -- Assumes nothing.
-use mathlib.Core.Path.{_≡_, refl, sym, ap, ap₂, _∙_, subst}
+use mathlib.Core.Path.{_≡_, refl, sym, ap, _∙_, subst}
 use Prim.Native.Nat.{ℕ, zero, suc, _+_, _-_, _≤_, _<_}
 use mathlib.Core.Bool.{Bool, true, false, not, _&&_, _||_}
 use mathlib.Core.List.{List, []}
@@ -19,7 +19,7 @@ use Rattle.format.specs.Variant.{in-block, no-variant}
 use Rattle.format.specs.Layout.{from-1-to, type-allowed}
 use Rattle.format.specs.Reply.{plain-answer}
 use Rattle.format.proofs.Rules.{Holds, by-need, both, by-need-of, never-both}
-use Rattle.format.proofs.Refuses.{Among, class-holds, every}
+use Rattle.format.proofs.Refuses.{class-holds, every}
 use Rattle.format.proofs.OffsetsLaws.{from-1-to-most}
 use Rattle.head_blocks.proofs.Answers.{granted, denied}
 use Rattle.call_rows.specs.declared.Rows.{Rows}
@@ -128,38 +128,35 @@ module _ (why : Refusal) where
   abbrev number : ℕ
   number = why .number
 
+  told-as : {b : Bool} → (number ≡ 0 → ⊥) → among record-numbers number ≡ b → b ≡ anchor-told why
+  unfolding anchor-told
+  told-as z e = rw (ne-eqb number 0 z, e)
+
   pub told-none : number ≡ 0 → true ≡ anchor-told why
   unfolding anchor-told
   told-none z = rw (eq-eqb number 0 z)
 
-  module _ (z : number ≡ 0 → ⊥) where
-    told-as : {b : Bool} → among record-numbers number ≡ b → b ≡ anchor-told why
-    unfolding anchor-told
-    told-as e = rw (ne-eqb number 0 z, e)
+  pub told-12-to-18 : 12 ≤ number → number < 19 → true ≡ anchor-told why
+  told-12-to-18 l h =
+      let e : 12 + (number - 12) ≡ number = omega arith in
+      told-as (λ z. omega arith) (ap (among record-numbers) (sym e) ∙ from-12 (number - 12) (omega arith))
 
-    pub told-below : number < 12 → false ≡ anchor-told why
-    told-below h = told-as (no-record (leb 12) refl number (lt-leb 12 number h))
+  pub told-23-to-25 : 23 ≤ number → number < 26 → true ≡ anchor-told why
+  told-23-to-25 l h =
+      let e : 23 + (number - 23) ≡ number = omega arith in
+      told-as (λ z. omega arith) (ap (among record-numbers) (sym e) ∙ from-23 (number - 23) (omega arith))
 
-    module _ (l : 12 ≤ number) where
-      pub told-to-18 : number ≤ 18 → true ≡ anchor-told why
-      told-to-18 h =
-          let e : 12 + (number - 12) ≡ number = omega arith in
-          told-as (ap (among record-numbers) (sym e) ∙ from-12 (number - 12) (omega arith))
+  pub told-below : (number ≡ 0 → ⊥) → number < 12 → false ≡ anchor-told why
+  told-below z h = told-as z (no-record (leb 12) refl number (lt-leb 12 number h))
 
-      module _ (m : 18 < number) where
-        pub told-between : number < 23 → false ≡ anchor-told why
-        told-between h = told-as (no-record (λ (n : ℕ). leb n 18 || leb 23 n) refl number (rw (lt-leb number 18 m, lt-leb 23 number h) refl))
+  pub told-between : 19 ≤ number → number < 23 → false ≡ anchor-told why
+  told-between m h =
+      told-as (λ z. omega arith) (no-record (λ (n : ℕ). leb n 18 || leb 23 n) refl number (rw (lt-leb number 18 (omega arith), lt-leb 23 number h) refl))
 
-        pub told-to-25 : 23 ≤ number → leb number 25 ≡ anchor-told why
-        told-to-25 h = told-as (go (leb number 25) refl)
-          where
-            go : (b : Bool) → leb number 25 ≡ b → among record-numbers number ≡ b
-            go true e =
-                let k : 23 + (number - 23) ≡ number = omega arith in
-                ap (among record-numbers) (sym k) ∙ from-23 (number - 23) (omega (arith, leb-true number 25 e))
-            go false e = no-record (λ (n : ℕ). leb n 25) refl number e
+  pub told-above : 26 ≤ number → false ≡ anchor-told why
+  told-above m = told-as (λ z. omega arith) (no-record (λ (n : ℕ). leb n 25) refl number (lt-leb number 25 (omega arith)))
 
-pub ruleset told-laws = (told-none, told-below, told-to-18, told-between, told-to-25)
+pub ruleset told-laws = (told-none, told-12-to-18, told-23-to-25, told-below, told-between, told-above)
 
 -- ---- `type_follows`
 

@@ -44,8 +44,7 @@ pub mod phased;
 
 pub use phased::next_phased_row;
 
-// The next variant, where its record starts, and how the last record that leans on none was refused, with its own variant: number 0 at place 0 if it was
-// accepted.
+// The next variant, where its record starts, and the refusal of the last record that leans on none, which names it: number 0 if it was accepted.
 pub struct Rows {
     pub fields: Fields,
     pub variant: FileVariant,
@@ -116,19 +115,11 @@ fn state_checked(rows: Rows, output: usize, work: usize) -> Reply
 fn anchor_told(why: Refusal) -> bool
     ensures { λ r. ⌜ r ≡ anchor-told why ⌝ }
 {
-    if why.number == 0 {
-        return true;
+    let number = why.number;
+    match number {
+        0 | 12..=18 | 23..=25 => true,
+        _ => false,
     }
-    if why.number < 12 {
-        return false;
-    }
-    if why.number <= 18 {
-        return true;
-    }
-    if why.number < 23 {
-        return false;
-    }
-    why.number <= 25
 }
 
 // Whether a record of this type may come next: no record leans where no anchor is told of.

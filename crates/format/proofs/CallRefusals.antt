@@ -9,7 +9,7 @@ use lib.Dec.{eqb, ltb, leb}
 use native.Mathlib.Omega.{arith}
 use borrow.Author.Tests.{ltb-true}
 use Rattle.format.specs.declared.FileVariant.{FileVariant}
-use Rattle.format.specs.Base.{pick, Bytes, Out, need, naming, need-of}
+use Rattle.format.specs.Base.{pick, Bytes, Out, naming, need-of}
 use Rattle.format.specs.Limits.{most-samples}
 use Rattle.format.specs.Classes.{header-numbers, record-numbers, writer-numbers, phased-writer-numbers, among}
 use Rattle.format.specs.PairCode.{Coded, coded, not-coded, code-numbered}
@@ -45,7 +45,8 @@ records-refusals K N start v lent (type ∷ types) (bs ∷ stored) h y =
     refuses-then RecordNumber (naming v (read-body (start + length bs) N lent type bs)) _
     (refuses-naming RecordNumber v (read-body (start + length bs) N lent type bs)
     (body-refusals (start + length bs) N lent type bs (allowed-kind (in-block K v) type (h .0)) (y .0))) (λ body left.
-    refuses-map RecordNumber _ (read-records N (next-variant v) (start + length bs) (next-anchor (type-leans type) lent (body-categories N lent body)) types stored)
+    refuses-map RecordNumber _
+    (read-records N (next-variant v) (start + length bs) (next-anchor (type-leans type) lent (body-categories N lent body)) types stored)
     (records-refusals K N (start + length bs) (next-variant v) (next-anchor (type-leans type) lent (body-categories N lent body)) types stored (h .1) (y .1)))
 
 pub stored-bytes : (v : ℕ) (stored : List (List ℕ)) → AllBytes stored → Bytes (getD stored v [])

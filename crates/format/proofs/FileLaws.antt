@@ -121,8 +121,8 @@ file-read-back K f p h =
     let l : Layout = layout-of-file f in
     simp (
       layout-read-back K l p (h .layout),
-      records-read-back (f .samples) (file-variant 0) (first-record K (fixed-of l)) [] (f .bodies) (from-1-to-most most-samples (f .samples) (h .layout .fixed .samples))
-          (h .bodies),
+      records-read-back (f .samples) (file-variant 0) (first-record K (fixed-of l)) [] (f .bodies)
+          (from-1-to-most most-samples (f .samples) (h .layout .fixed .samples)) (h .bodies),
     )
 
 -- what the whole-file check accepts obeys, and its bytes are those of the file

@@ -16,7 +16,7 @@ use Rattle.format.specs.Layout.{Fixed, fixed-bytes, Arrays, arrays-bytes
 use Rattle.format.specs.Layout.{in-parts, layout-bytes, FixedObeys, OffsetsFit, ColumnsObey, TypesAllowed, LayoutObeys}
 use Rattle.format.specs.Header.{Header, header-with, header-of, read-fixed, read-arrays, need-types, read-after-fixed, read-header}
 use Rattle.format.specs.Header.{split-bodies, layout-of, read-bodies, read-data, read-layout}
-use Rattle.format.proofs.Rules.{Holds, by-need, by-bind, by-map, by-numbered, weaken, below-after, by-need-of, by-naming}
+use Rattle.format.proofs.Rules.{Holds, by-bind, by-map, by-numbered, weaken, below-after, by-need-of, by-naming}
 use Rattle.format.proofs.ArraysLaws.{fixed-read-back, AreFixed, fixed-as-written, by-fixed, fixed-pass, AreArrays, arrays-as-written, same-arrays}
 use Rattle.format.proofs.ArraysLaws.{arrays-length, arrays-read-back, header-apart}
 use Rattle.format.proofs.OffsetsLaws.{by-types, types-pass, by-offsets, offsets-pass, bodies-read-back, AreBodies, bodies-as-written, starts-count}

@@ -10,7 +10,7 @@ use lib.Dec.{eqb, leb, lit<, lit≤}
 use native.Mathlib.Omega.{arith}
 use borrow.Author.Tests.{leb-true, eqb-true, eq-eqb}
 use Rattle.format.specs.declared.FileVariant.{FileVariant}
-use Rattle.format.specs.Base.{pick, Below, Out, ok, bind, need, need-of}
+use Rattle.format.specs.Base.{pick, Below, Out, ok, bind, need-of}
 use Rattle.format.specs.Limits.{most-variants}
 use Rattle.format.specs.Numbers.{read-bytes}
 use Rattle.format.specs.Packed.{Bits, one, two, four, eight, more, packed-size}

@@ -128,7 +128,8 @@ module _ (K : ℕ) (f : File) (p : zero < K) (h : Obeys K f) where
         let body : Body = getD (f .bodies) (v .0) no-body in
         let end : ℕ = record-start K (layout-of-file f) (next-variant v) in
         ap₂ (λ (t : ℕ) (bs : List ℕ). map-out (what N lent) (naming v (read-body end N lent t bs))) (type-at v l) (bytes-at (v .0) (f .bodies) l)
-        ∙ ap (λ (m : Out Body). map-out (what N lent) (naming v m)) (body-read-back end N lent body (from-1-to-most most-samples N (h .layout .fixed .samples)) g)
+        ∙ ap (λ (m : Out Body). map-out (what N lent) (naming v m))
+        (body-read-back end N lent body (from-1-to-most most-samples N (h .layout .fixed .samples)) g)
 
     -- one that does not lean is read over nothing
     stands-reads : (v : FileVariant) → v .0 < length (f .bodies) → body-leans (getD (f .bodies) (v .0) no-body) ≡ false

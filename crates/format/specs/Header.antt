@@ -117,7 +117,8 @@ layout-of f c bodies = record { mode = f .mode; samples = f .samples; form = f .
 -- the bodies, in bytes that end with the file
 unfoldable pub read-bodies : ℕ → Header → List ℕ → Out Layout
 read-bodies end h bs =
-    map-out (layout-of (h .fixed) (h .arrays .columns)) (naming (no-variant (h .fixed .variants)) (numbered 9 (split-bodies end (h .arrays .columns .lengths) bs)))
+    map-out (layout-of (h .fixed) (h .arrays .columns))
+    (naming (no-variant (h .fixed .variants)) (numbered 9 (split-bodies end (h .arrays .columns .lengths) bs)))
 
 -- the offset fields, then the bodies
 unfoldable pub read-data : ℕ → ℕ → Header → List ℕ → Out Layout

@@ -17,7 +17,7 @@ use Rattle.format.specs.declared.Fields.{Fields}
 use Rattle.format.specs.declared.Refusal.{Refusal}
 use Rattle.format.specs.declared.HeaderReply.{HeaderReply}
 use Rattle.format.specs.declared.HeaderReply.the-variants.{Accepted, Refused}
-use Rattle.format.specs.Base.{pick, ok, refused, refusal, refuse, named, refuse-of}
+use Rattle.format.specs.Base.{pick, ok, refused, refusal, named, refuse-of}
 use Rattle.format.specs.Variant.{file-variant, no-variant}
 use Rattle.format.specs.Layout.{Fixed, Arrays, sum, block-count, block-size, header-end, first-record}
 use Rattle.format.specs.Header.{type-place}

@@ -12,7 +12,7 @@ use Rattle.format.specs.declared.Fields.{Fields}
 use Rattle.format.specs.declared.Refusal.{Refusal}
 use Rattle.format.specs.declared.HeaderReply.{HeaderReply}
 use Rattle.format.specs.declared.HeaderReply.the-variants.{Refused}
-use Rattle.format.specs.Base.{Bytes, refused, refusal, refuse, named, refuse-of}
+use Rattle.format.specs.Base.{Bytes, refused, refusal, named, refuse-of}
 use Rattle.format.specs.Limits.{most-samples, most-variants}
 use Rattle.format.specs.Layout.{Fixed, fields-of, from-1-to, mode-covered, form-allowed, header-end}
 use Rattle.format.specs.Header.{need-fixed, read-layout}

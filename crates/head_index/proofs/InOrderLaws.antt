@@ -115,7 +115,8 @@ module _ (K : ℕ) (l : Layout) (p : zero < K) (h : LayoutObeys K l) where
     -- one record, and then the rest
     one-more : (v : ℕ) (lent : List ℕ) (types : List ℕ) (stored : List (List ℕ)) → Bytes (getD (l .bodies) v []) → Lent v lent
         → ((next : List ℕ) → Lent (suc v) next
-        → map-out (rows-as what (l .samples) next) (read-records (l .samples) (file-variant (suc v)) (record-start K l (file-variant (suc v))) next types stored)
+        → map-out (rows-as what (l .samples) next)
+        (read-records (l .samples) (file-variant (suc v)) (record-start K l (file-variant (suc v))) next types stored)
         ≡ read-each what K l (length stored) (file-variant (suc v)))
         → (out : Out Body) → record-at v lent ≡ out
         → map-out (rows-as what (l .samples) lent) (bind out (λ body left. map-out (_∷_ body)

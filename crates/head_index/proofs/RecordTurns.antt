@@ -1,6 +1,6 @@
 -- One turn of a loop over the records of a file, in variant order, as code takes it by index.
 -- Assumes nothing.
-use mathlib.Core.Path.{_≡_, refl, sym, ap, ap₂, _∙_, subst}
+use mathlib.Core.Path.{_≡_, refl, sym, ap, ap₂, _∙_}
 use mathlib.Core.Bool.{Bool, true, false}
 use Prim.Native.Nat.{ℕ, zero, suc, _<_}
 use mathlib.Core.List.{List, [], _∷_, _++_}
@@ -12,8 +12,8 @@ use Rattle.format.specs.Body.{Body, read-body, body-categories, body-leans}
 use Rattle.format.specs.Variant.{file-variant}
 use Rattle.format.specs.Layout.{sum, first-record, Layout, fixed-of, record-start, LayoutObeys}
 use Rattle.format.specs.File.{next-anchor, read-records, read-all, type-of, variant-leans}
-use Rattle.format.proofs.Rules.{split, never-both, Holds}
-use Rattle.format.proofs.BodyLaws.{IsBody, body-as-written, kept-leaning}
+use Rattle.format.proofs.Rules.{split, never-both}
+use Rattle.format.proofs.BodyLaws.{kept-leaning}
 use Rattle.format.proofs.RowLaws.{body-row, anchor-unused, row-anchor-unused}
 use Rattle.head_index.proofs.InOrderLaws.{read-leans, read-is}
 use Rattle.head_index.proofs.StartLaws.{record-end}
@@ -31,7 +31,8 @@ outcome-map f (refused why) = refl
 
 -- what is left to check from variant v on, over the categories that it leans on
 unfoldable pub left-to-check : ℕ → Layout → ℕ → List ℕ → Out (Unit {0})
-left-to-check K l v lent = outcome (read-records (l .samples) (file-variant v) (record-start K l (file-variant v)) lent (drop v (l .types)) (drop v (l .bodies)))
+left-to-check K l v lent =
+    outcome (read-records (l .samples) (file-variant v) (record-start K l (file-variant v)) lent (drop v (l .types)) (drop v (l .bodies)))
 
 -- the record of variant v, read over those categories
 abbrev pub record-over : ℕ → Layout → ℕ → List ℕ → Out Body

@@ -9,7 +9,7 @@ use lib.Seq.{drop-drop, drop-at}
 use lib.Dec.{eqb}
 use native.Mathlib.Omega.{arith}
 use borrow.Author.Tests.{le-leb}
-use Rattle.format.specs.Base.{pick, Bytes, Out, ok, refuse, map-out, need, numbered, refused, named, refusal, refuse-of}
+use Rattle.format.specs.Base.{pick, Bytes, Out, ok, refuse, map-out, need, numbered, refused, refuse-of}
 use Rattle.format.specs.Numbers.{read-numbers}
 use Rattle.format.specs.Packed.{Bits, one, packed-size, read-packed}
 use Rattle.format.specs.Variant.{file-variant, no-variant}

@@ -11,7 +11,7 @@ use native.Mathlib.Omega.{arith}
 use borrow.Author.Tests.{lt-ltb, le-ltb}
 use Rattle.format.specs.declared.FileVariant.{FileVariant}
 use Rattle.format.specs.declared.FoundInFile.the-variants.{At}
-use Rattle.format.specs.Base.{pick, Out, ok, refuse, map-out, numbered, refused, named, refusal, refuse-of}
+use Rattle.format.specs.Base.{pick, Out, ok, refuse, map-out, numbered, refused, refuse-of}
 use Rattle.format.specs.Numbers.{read-bytes}
 use Rattle.format.specs.Variant.{file-variant, next-variant, in-block, no-variant}
 use Rattle.format.specs.Layout.{Fixed, unblocked, Arrays, sum, block-count, first-record, fixed-size, ColumnsUnblocked}
@@ -130,7 +130,8 @@ module _ (end : ℕ) (h : Header) (bs : List ℕ) where
   unfolding read-data
   data-by-index K n =
       let e : 0 + length offsets ≡ block-count K (h .fixed) = omega arith in
-      rw e at (offsets-by-index (h .fixed) 0 offsets (starts-of K (h .fixed) (h .arrays)) (read-bodies end h bs) (n ∙ sym (starts-count K _ (h .fixed) lengths)))
+      rw e at
+      (offsets-by-index (h .fixed) 0 offsets (starts-of K (h .fixed) (h .arrays)) (read-bodies end h bs) (n ∙ sym (starts-count K _ (h .fixed) lengths)))
 
   -- 9: the records do not end where their bytes do
   pub data-amiss : (sum lengths ≡ length bs → ⊥) → read-bodies end h bs ≡ refuse-of (no-variant (h .fixed .variants)) 9 end

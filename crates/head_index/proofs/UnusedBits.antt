@@ -1,6 +1,6 @@
 -- Packed arrays by index: where the bytes are there, the unused bits of the last byte decide whether an array is read or refused.
 -- Assumes nothing.
-use mathlib.Core.Path.{_≡_, refl, sym, ap, ap₂, _∙_}
+use mathlib.Core.Path.{_≡_, refl, sym, ap, _∙_}
 use Prim.Native.Nat.{ℕ, zero, suc, _+_, _-_, _*_, _/_, _%_, _^_, _≤_, _<_, zero-le}
 use native.Mathlib.Nat.{pow-zero, pow-succ', div-one, div-div-eq-div-mul, mul-suc, mul-zero, div-eq-of-lt, mod-eq-of-lt, add-div-left, add-div-right}
 use native.Mathlib.Nat.{add-mod-left, mod-one, zero-mod, zero-lt-suc, le-refl}

@@ -10,7 +10,7 @@ use Rattle.format.specs.declared.FoundInBlock.{FoundInBlock}
 use Rattle.format.specs.declared.FoundInBlock.the-variants as in-block-as
 use Rattle.format.specs.declared.FoundInFile.{FoundInFile}
 use Rattle.format.specs.declared.FoundInFile.the-variants as in-file-as
-use Rattle.format.specs.Base.{pick, Out, ok, refused, refusal, named, bind, need, refuse-of}
+use Rattle.format.specs.Base.{pick, Out, ok, bind, need, refuse-of}
 use Rattle.format.specs.Packed.{one, packed-size}
 use Rattle.format.specs.Variant.{next-variant, block-variant, in-block, in-file}
 use Rattle.format.specs.Layout.{Fixed, unblocked, Form, form-of, flag-count, Arrays, block-count, block-sizes, block-size, first-record}

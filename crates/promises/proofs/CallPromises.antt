@@ -18,7 +18,7 @@ use Rattle.format.specs.Layout.{Layout, layout-bytes, record-start, LayoutObeys
 use Rattle.format.specs.Header.{read-layout}
 use Rattle.format.specs.File.{File, layout-of-file, file-bytes, rows, phase-rows, Obeys, read-variant, variant-as}
 use Rattle.format.specs.Reply.{refusal-of, given, header-call, need-variant, read-as, read-call, phases-call, lookup-call, view-out, view-call}
-use Rattle.format.proofs.Rules.{Holds, by-test, by-need, by-bind, by-need-of}
+use Rattle.format.proofs.Rules.{Holds, by-test, by-bind, by-need-of}
 use Rattle.format.proofs.HeaderLaws.{layout-read-back, IsLayout, layout-as-written}
 use Rattle.format.proofs.HeaderRefusals.{header-refusals}
 use Rattle.format.proofs.CallRefusals.{view-numbers, view-refusals}

@@ -11,7 +11,6 @@ use mathlib.Core.List.{List, [], _∷_, _++_}
 use Prim.Native.Nat.{ℕ, _≤_, _<_}
 use lib.ListN.{length, take, drop, getD, replicate}
 use Rattle.format.specs.declared.FileVariant.{FileVariant}
-use Rattle.format.specs.declared.Refusal.{Refusal}
 use Rattle.format.specs.Base.{pick, Below, Bytes, Out, ok, map-out}
 use Rattle.format.specs.Limits.{variants-to-a-block}
 use Rattle.format.specs.Classes.{header-numbers, record-numbers, writer-numbers}

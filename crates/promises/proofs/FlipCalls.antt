@@ -10,7 +10,7 @@ use lib.Dec.{ltb, leb}
 use native.Mathlib.Omega.{arith}
 use borrow.Author.Tests.{ltb-true}
 use Rattle.format.specs.declared.FileVariant.{FileVariant}
-use Rattle.format.specs.Base.{Bytes, Out, ok, bind, need, need-of}
+use Rattle.format.specs.Base.{Bytes, Out, ok, bind, need-of}
 use Rattle.format.specs.Category.{just-one}
 use Rattle.format.specs.Body.{Body}
 use Rattle.format.specs.Variant.{file-variant, no-variant}

@@ -11,7 +11,7 @@ use lib.Dec.{eqb, leb}
 use native.Mathlib.Omega.{arith}
 use borrow.Author.Tests.{leb-true, eqb-true, le-leb, eq-eqb}
 use Rattle.format.specs.declared.FileVariant.{FileVariant}
-use Rattle.format.specs.Base.{Bytes, Out, ok, refused, map-out, need, need-of}
+use Rattle.format.specs.Base.{Bytes, Out, ok, refused, map-out, need-of}
 use Rattle.format.specs.Limits.{most-samples}
 use Rattle.format.specs.Body.{Body}
 use Rattle.format.specs.Variant.{file-variant, no-variant}
@@ -19,7 +19,7 @@ use Rattle.format.specs.Layout.{Layout, first-record, fixed-of}
 use Rattle.format.specs.Header.{read-layout}
 use Rattle.format.specs.File.{File, layout-of-file, file-bytes, Obeys, file-of, read-all, read-file}
 use Rattle.format.specs.Reply.{refusal-of, holds-row, holds-set, checked, member, past-last, flip-out, flip-call}
-use Rattle.format.proofs.Rules.{Holds, by-need, by-bind, by-map, both, never-both, split, by-need-of}
+use Rattle.format.proofs.Rules.{Holds, by-bind, by-map, both, never-both, split, by-need-of}
 use Rattle.format.proofs.OffsetsLaws.{from-1-to-most}
 use Rattle.format.proofs.HeaderLaws.{layout-read-back}
 use Rattle.format.proofs.FileLaws.{records-read-back, IsFile, file-as-written}
@@ -94,8 +94,8 @@ unfolding read-all
 records-pass K f h =
     let l : Layout = layout-of-file f in
     ap (map-out (λ (bodies : List Body). l))
-    (records-read-back (f .samples) (file-variant 0) (first-record K (fixed-of l)) [] (f .bodies) (from-1-to-most most-samples (f .samples) (h .layout .fixed .samples))
-    (h .bodies))
+    (records-read-back (f .samples) (file-variant 0) (first-record K (fixed-of l)) [] (f .bodies)
+    (from-1-to-most most-samples (f .samples) (h .layout .fixed .samples)) (h .bodies))
 
 -- so of such a file a flip looks at the set and the work area
 flip-of-file : (K : ℕ) (f : File) (set work : List ℕ) → zero < K → Obeys K f

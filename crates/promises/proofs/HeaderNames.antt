@@ -227,7 +227,7 @@ module _ (K : ℕ) (bs : List ℕ) (p : zero < K) (y : Bytes bs) where
       (is-map P _ (naming (no-variant (f .variants)) (numbered 9 bodies)) (numbered-none 9 bodies refl (bodies-inside (length bs) (a .columns .lengths) left)))
 
   -- 01, Replies: each place of 1 to 9 is "file length", or a byte of the header; 02, Ask 2: and each refusal names what it should
-  pub header-is : RefusalIs P (read-layout K bs)
+  pub header-is : RefusalIs (HeaderIs K bs) (read-layout K bs)
   unfolding after-fixed
   header-is =
       split 12 (length bs)

@@ -10,7 +10,7 @@ use lib.Dec.{lit<}
 use native.Mathlib.Omega.{arith}
 use borrow.Author.Tests.{le-leb, lt-ltb, le-ltb}
 use Rattle.format.specs.declared.FileVariant.{FileVariant}
-use Rattle.format.specs.Base.{pick, Bytes, Out, ok, refuse, refused, bind, map-out, refuse-of, naming}
+use Rattle.format.specs.Base.{pick, Bytes, Out, ok, refused, bind, map-out, refuse-of, naming}
 use Rattle.format.specs.Limits.{variants-to-a-block}
 use Rattle.format.specs.Body.{read-body, body-phases, Reading, body-reading}
 use Rattle.format.specs.Variant.{file-variant, anchor, no-variant}

@@ -20,7 +20,7 @@ use Rattle.format.specs.Layout.{Layout, layout-bytes, record-start, LayoutObeys
 use Rattle.format.specs.Header.{read-layout}
 use Rattle.format.specs.File.{type-of, variant-leans, read-over, over-as, variant-as}
 use Rattle.format.specs.Reply.{refusal-of, given, samples-of, holds-row, out-as, read-as, lookup-out, lookup-call}
-use Rattle.format.proofs.Rules.{Holds, by-need, by-bind, by-map, weaken, both, never-both, by-naming, by-need-of}
+use Rattle.format.proofs.Rules.{Holds, by-bind, by-map, weaken, both, never-both, by-naming, by-need-of}
 use Rattle.format.proofs.OffsetsLaws.{from-1-to-most}
 use Rattle.format.proofs.AnchorLaws.{IsAnchor, anchor-is}
 use Rattle.format.proofs.TrackLaws.{leans-track}
@@ -91,7 +91,8 @@ module _ (K : ℕ) (file : List ℕ) (p : zero < K) (y : Bytes file) (l : Layout
       → over-as what K l lent v ≡ ok row []
   unfolding over-as
   over-read-back what lent v row r =
-      ap (λ (out : Out Body). map-out (what (l .samples) lent) (naming v out)) (body-is-read what lent v row r) ∙ ap (λ (x : List ℕ). ok x []) (sym (r .stands-for))
+      ap (λ (out : Out Body). map-out (what (l .samples) lent) (naming v out)) (body-is-read what lent v row r)
+      ∙ ap (λ (x : List ℕ). ok x []) (sym (r .stands-for))
 
   -- a variant and its anchor
   pub variant-as-written : (what : ℕ → List ℕ → Body → List ℕ) (v : FileVariant)

@@ -10,7 +10,7 @@ use native.Mathlib.Omega.{arith}
 use borrow.Author.Tests.{le-leb, lt-leb, lt-ltb, le-ltb}
 use Rattle.format.specs.declared.Refusal.{Refusal}
 use Rattle.format.specs.declared.Reply.the-variants.{Refused}
-use Rattle.format.specs.Base.{Bytes, Out, ok, refuse, refused, refusal, named, refuse-of}
+use Rattle.format.specs.Base.{Bytes, Out, ok, refused, refusal, named, refuse-of}
 use Rattle.format.specs.Limits.{variants-to-a-block}
 use Rattle.format.specs.Variant.{file-variant, no-variant}
 use Rattle.format.specs.Layout.{fields-of, sum, first-record, Layout, LayoutObeys, fixed-of, record-start}

@@ -224,7 +224,8 @@ module _ {index held : List ℕ} {f : Fields} {row₀ row : List ℕ} {start v t
             type-is = t;
             left-is =
                 rw next
-                (over-either x t ∙ ap (left-to-check K l (suc v)) (carried x .0) ∙ sym (turn ∙ ap (λ (m : Out Body). then-check K l v (take N row) (naming here m)) (x .is)));
+                (over-either x t ∙ ap (left-to-check K l (suc v)) (carried x .0)
+                ∙ sym (turn ∙ ap (λ (m : Out Body). then-check K l v (take N row) (naming here m)) (x .is)));
             rest-is = behind x ∙ w .rest-is;
             variants = w .variants;
             samples = w .samples;

@@ -13,4 +13,5 @@ anchor-told-spec =
     (λ c. search (told-laws, needs))
     (λ c. search (told-laws, needs))
     (λ c. search (told-laws, needs))
+    (λ c. search (told-laws, needs))
     (λ c. search (told-laws, needs)))
