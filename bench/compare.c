@@ -37,14 +37,14 @@ static void same_file(const char *what, struct file_told a, struct file_told b)
 }
 
 // The reply of a call that gave a state.
-static struct told told_of(struct rows r)
+static struct told told_in(struct rows r)
 {
     return (struct told){r.refusal, r.place, r.named, 0};
 }
 
 static void same_rows(const char *what, struct rows a, struct rows b)
 {
-    same(what, told_of(a), told_of(b));
+    same(what, told_in(a), told_in(b));
     if (a.variants != b.variants || a.samples != b.samples || a.mode != b.mode || a.form != b.form) fail(what);
     if (a.variant != b.variant || a.start != b.start) fail(what);
     if (a.anchor_refusal != b.anchor_refusal || a.anchor_place != b.anchor_place || a.anchor_named != b.anchor_named) fail(what);
@@ -67,7 +67,7 @@ static void all_rows(struct file f)
     for (usize v = 0, started = r.refusal == 0; started && v <= f.variants; v++) {
         int phased = rnd() % 4 != 0;
         r = stepped(r, f, phased, sizeof out_1);
-        struct told a = told_of(r), b = plain_read(f.bytes, f.size, v, out_2, sizeof out_2, work_2, sizeof work_2);
+        struct told a = told_in(r), b = plain_read(f.bytes, f.size, v, out_2, sizeof out_2, work_2, sizeof work_2);
         if (phased) plain_read_phases(f.bytes, f.size, v, phases_2, sizeof phases_2, work_2, sizeof work_2);
         // a read clears its work area, a step keeps a row there
         memcpy(work_2, work_1, sizeof work_2);

@@ -40,10 +40,10 @@ class Statements(unittest.TestCase):
         page = statements.page(statements.Sources())
         for file, old, new in (
             # a list of which a line is gone, and one of the examples
-            (f"{PROMISES}/Orders.antt", "    ∷ (read A 3 4 gives (10 ∷ 0 ∷ []))\n", ""),
+            (f"{PROMISES}/Orders.antt", "    ∷ (read A 3 4 gives (10 ∷ 0 ∷ 3 ∷ []))\n", ""),
             ("crates/format/specs/Examples.antt", "    ∷ (row-of A 1 gives (0 ∷ 2 ∷ 2 ∷ 3 ∷ 1 ∷ []))\n", ""),
             # a word that a line is made of
-            (f"{PROMISES}/Orders.antt", "header file = number-and-place (", "header file = number-and-place (λ x. x) ("),
+            (f"{PROMISES}/Orders.antt", "header file = all-told (", "header file = all-told (λ x. x) ("),
             # a premise more, of a law and of the module that it stands in
             (f"{PROMISES}/CallLaws.antt", "pub check-exactly : (K : ℕ) (file", "pub check-exactly : (K : ℕ) → 5 < K → (file"),
             (f"{PROMISES}/FlipPromises.antt", "(q : refusal file set work ≡ 0) where", "(q : refusal file set work ≡ 0) (none : set ≡ []) where"),

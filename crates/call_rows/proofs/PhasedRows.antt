@@ -25,7 +25,7 @@ use Rattle.call_rows.specs.Phased.{LeftPhased, with-phases, phases-fille
 use Rattle.call_rows.specs.Phased.{next-phased-row-in, next-phased-row-call}
 use Rattle.call_rows.proofs.StepLaws.{over-copy}
 use Rattle.call_rows.proofs.RecordLaws.{all-known}
-use Rattle.call_rows.proofs.RowRefusals.{next-row-numbers, Kept, stepped-keeps, sought-numbers, sought-follows}
+use Rattle.call_rows.proofs.RowRefusals.{next-row-numbers, StepNames, Kept, stepped-keeps, sought-numbers, sought-names, sought-follows}
 
 -- ---- all but the phases
 
@@ -149,11 +149,15 @@ module _ (rows : Rows) (file output phases work : List ℕ) where
       unfolding next-phased-row-call next-phased-row-in
       kept = rw (row-stepped rows file output phases work sought)
           (stepped-keeps rows file output work y sought (sought-numbers rows file file (min (length output) (length phases)) (length work))
+          (sought-names rows file file (min (length output) (length phases)) (length work))
           (sought-follows rows file file (min (length output) (length phases)) (length work)) (rw (row-stepped rows file output phases work sought) at e))
 
       -- its refusals are those of the call for the categories alone
       pub next-phased-row-refusals : Among next-row-numbers (left .row .verdict .refusal .number)
       next-phased-row-refusals = kept .numbered
+
+      pub next-phased-row-names : StepNames rows (left .row .verdict .refusal)
+      next-phased-row-names = kept .names
 
       -- DEMAND 1: a refusal leaves the output untouched
       pub refused-next-phased-row : left .row .output ≡ output

@@ -1,27 +1,31 @@
--- Each refusal of the two calls is a number of document 01's table that belongs to that call, also where no start gave the state; what a refused step leaves.
+-- Each refusal of the two calls is a number of document 01's table that belongs to that call, also where no start gave the state; what a refused step names
+-- and leaves.
 -- Assumes nothing.
-use mathlib.Core.Path.{_≡_, refl}
+use mathlib.Core.Path.{_≡_, refl, ap}
 use Prim.Native.Nat.{ℕ}
 use mathlib.Core.Bool.{true, false, not, _&&_, _||_}
 use mathlib.Core.List.{List, [], _∷_, _++_}
 use lib.ListN.{length, take, drop}
 use lib.Dec.{eqb, ltb, leb}
+use native.Mathlib.Omega.{arith}
 use Rattle.format.specs.declared.Refusal.{Refusal}
 use Rattle.format.specs.declared.Reply.the-variants.{Accepted, Refused}
-use Rattle.format.specs.Base.{pick, Bytes, Out, ok, refused}
+use Rattle.format.specs.Base.{pick, Bytes, Out, ok, refused, refusal, named}
 use Rattle.format.specs.Classes.{header-numbers, record-numbers, among}
 use Rattle.format.specs.Limits.{most-samples, most-variants, variants-to-a-block}
 use Rattle.format.specs.Body.{Body, read-body, type-leans}
-use Rattle.format.specs.Variant.{in-block}
+use Rattle.format.specs.Variant.{file-variant, no-variant, in-block}
 use Rattle.format.specs.Layout.{from-1-to, type-allowed}
-use Rattle.format.specs.Header.{read-layout}
+use Rattle.format.specs.Header.{type-place, read-layout}
 use Rattle.format.specs.Reply.{keeps-work, holds-row}
 use Rattle.format.proofs.Rules.{Holds, by-test, by-bind, both, never-both, below-take, below-drop, by-need-of}
 use Rattle.format.proofs.Unique.{apart}
-use Rattle.format.proofs.Refuses.{Refuses, Among, RecordNumber, class-holds, refuses-wider, refuses-need, refuses-then, refuses-need-of}
+use Rattle.format.proofs.Refuses.{RefusalIs, is-need, is-need-of, is-then, Refuses, Among, RecordNumber, class-holds, no-other-class, refuses-wider}
+use Rattle.format.proofs.Refuses.{refuses-need, refuses-need-of, refuses-then}
 use Rattle.format.proofs.Refusals.{body-refusals, allowed-kind}
 use Rattle.format.proofs.HeaderRefusals.{header-refusals}
 use Rattle.format.proofs.CallRefusals.{record-clears-work}
+use Rattle.head_blocks.specs.Parts.{fixed}
 use Rattle.head_places.specs.declared.Place.{Place}
 use Rattle.read_record.specs.Recorded.{RecordLeft, record-left, record-replied, recorded, named-left}
 use Rattle.call_rows.specs.declared.Rows.{Rows}
@@ -47,9 +51,16 @@ start-rows-refusals file work =
 abbrev pub next-row-numbers : List ℕ
 next-row-numbers = 4 ∷ 8 ∷ 9 ∷ 10 ∷ 11 ∷ record-numbers
 
+-- 02, Ask 2: what a step's own refusals name, whatever the state: 4 names 0; 9, 10 and 11 the state's M; 8 its variant, at the byte that holds its type
+pub record StepNames (rows : Rows) (why : Refusal) : Type 0 where
+  pub names-zero : why .number ≡ 4 → why .variant ≡ file-variant 0
+  pub names-none : Among (9 ∷ 10 ∷ 11 ∷ []) (why .number) → why .variant ≡ no-variant (rows .fields .variants)
+  pub names-type : why .number ≡ 8 → (why .variant ≡ rows .variant) × (why .place ≡ type-place variants-to-a-block (fixed (rows .fields)) (rows .variant))
+
 -- what a refused step leaves: its number is one of them, the output stays, and where nothing was read the state and the work area stay too
 pub record Kept (rows : Rows) (output work : List ℕ) (left : Left) : Type 0 where
   pub numbered : Among next-row-numbers (left .verdict .refusal .number)
+  pub names : StepNames rows (left .verdict .refusal)
   pub output-stays : left .output ≡ output
   pub stays : keeps-work (left .verdict .refusal .number) ≡ true → (left .rows ≡ rows) × (left .work ≡ work)
 
@@ -67,6 +78,11 @@ module _ (rows : Rows) (held output work : List ℕ) (y : Bytes held) where
       → Kept rows output work (row-left (answered later (Refused why)) output work₁)
   for-record why later work₁ c = record {
     numbered = class-holds (among next-row-numbers) record-numbers (why .number) refl c;
+    names = record {
+      names-zero = λ t. never-both c (ap (among record-numbers) t);
+      names-none = λ t. no-other-class record-numbers (9 ∷ 10 ∷ 11 ∷ []) (why .number) refl c t;
+      names-type = λ t. never-both c (ap (among record-numbers) t);
+    };
     output-stays = refl;
     stays = λ k. never-both k (record-clears-work (why .number) c);
   }
@@ -116,10 +132,10 @@ module _ (rows : Rows) (held output work : List ℕ) (y : Bytes held) where
     placed-keeps : Keeps (pick (type-leans type) (over-anchor rows held p output work) (over-nothing rows held p output work))
     placed-keeps = by-test Keeps (type-leans type) over-anchor-keeps (λ l. alone-keeps (p .end) (read-at rows held p work) (read-numbers work))
 
-  pub stepped-keeps : (m : Out Place) → Refuses (Among next-row-numbers) m → Holds (λ (p : Place) (left : List ℕ). type-follows rows (p .record_type) ≡ true) m
-      → Keeps (stepped rows held output work m)
-  stepped-keeps (ok p left) r t = placed-keeps p t
-  stepped-keeps (refused why) r t = λ e. record { numbered = r; output-stays = refl; stays = λ k. (refl, refl) }
+  pub stepped-keeps : (m : Out Place) → Refuses (Among next-row-numbers) m → RefusalIs (StepNames rows) m
+      → Holds (λ (p : Place) (left : List ℕ). type-follows rows (p .record_type) ≡ true) m → Keeps (stepped rows held output work m)
+  stepped-keeps (ok p left) r n t = placed-keeps p t
+  stepped-keeps (refused why) r n t = λ e. record { numbered = r; names = n; output-stays = refl; stays = λ k. (refl, refl) }
 
 -- what is refused before a record is read
 state-numbers : (rows : Rows) (output work : ℕ) → Refuses (Among next-row-numbers) (state-checked rows output work)
@@ -130,7 +146,36 @@ state-numbers rows output work =
     (refuses-need-of (Among next-row-numbers) _ (leb (rows .fields .samples) output && leb (rows .fields .samples) work) _ _ _ refl
     (refuses-need-of (Among next-row-numbers) _ (ltb (rows .variant .0) (rows .fields .variants)) _ _ _ refl tt)))
 
+module _ (rows : Rows) where
+  zeroth : (place : ℕ) → StepNames rows (refusal 4 place)
+  zeroth place = record { names-zero = λ t. refl; names-none = λ t. never-both t refl; names-type = λ t. absurd (omega arith) }
+
+  none : (number place : ℕ) → Among (9 ∷ 10 ∷ 11 ∷ []) number → StepNames rows (named (no-variant (rows .fields .variants)) (refusal number place))
+  none number place h = record {
+    names-zero = λ t. never-both h (ap (among (9 ∷ 10 ∷ 11 ∷ [])) t);
+    names-none = λ t. refl;
+    names-type = λ t. never-both h (ap (among (9 ∷ 10 ∷ 11 ∷ [])) t);
+  }
+
+  state-names : (output work : ℕ) → RefusalIs (StepNames rows) (state-checked rows output work)
+  unfolding state-checked
+  state-names output work =
+      is-need _ (from-1-to most-variants (rows .fields .variants)) 4 3 _ (λ t. zeroth 3) (λ t.
+      is-need _ (from-1-to most-samples (rows .fields .samples)) 4 7 _ (λ t. zeroth 7) (λ t.
+      is-need-of _ _ (leb (rows .fields .samples) output && leb (rows .fields .samples) work) 10 0 _ (λ t. none 10 0 refl) (λ t.
+      is-need-of _ _ (ltb (rows .variant .0) (rows .fields .variants)) 11 0 _ (λ t. none 11 0 refl) (λ t. tt))))
+
 module _ (rows : Rows) (index held : List ℕ) (output work : ℕ) where
+  pub sought-names : RefusalIs (StepNames rows) (next-record rows index held output work)
+  unfolding next-record record-checked
+  sought-names =
+      is-then _ (state-checked rows output work) _ (state-names rows output work) (λ u left.
+      is-need-of _ _ (type-follows rows (record-of rows index .record_type)) 8 _ _ (λ t. of-type) (λ t.
+      is-need-of _ _ (leb (record-of rows index .end) (length held)) 9 (length held) _ (λ f. none rows 9 (length held) refl) (λ f. tt)))
+    where
+      of-type : StepNames rows (named (rows .variant) (refusal 8 (type-place variants-to-a-block (fixed (rows .fields)) (rows .variant))))
+      of-type = record { names-zero = λ t. absurd (omega arith); names-none = λ t. never-both t refl; names-type = λ t. (refl, refl) }
+
   pub sought-numbers : Refuses (Among next-row-numbers) (next-record rows index held output work)
   unfolding next-record record-checked
   sought-numbers =
@@ -154,11 +199,15 @@ module _ (rows : Rows) (file output work : List ℕ) (y : Bytes file) (e : next-
   unfolding next-row-call next-row-in
   kept =
       stepped-keeps rows file output work y (next-record rows file file (length output) (length work))
-      (sought-numbers rows file file (length output) (length work)) (sought-follows rows file file (length output) (length work)) e
+      (sought-numbers rows file file (length output) (length work)) (sought-names rows file file (length output) (length work))
+      (sought-follows rows file file (length output) (length work)) e
 
   -- whatever the state: the refusal that it tells of its anchor is handed on only if a record can have it
   pub next-row-refusals : Among next-row-numbers (next-row-call rows file output work .verdict .refusal .number)
   next-row-refusals = kept .numbered
+
+  pub next-row-names : StepNames rows (next-row-call rows file output work .verdict .refusal)
+  next-row-names = kept .names
 
   -- DEMAND 1: a refusal leaves the output untouched
   pub refused-next-row : next-row-call rows file output work .output ≡ output

@@ -14,14 +14,14 @@ use Rattle.format.specs.declared.Refusal.{Refusal}
 use Rattle.format.specs.Base.{pick, Bytes, Out, ok, refused, refusal, named, bind}
 use Rattle.format.specs.Classes.{header-numbers, record-numbers, call-numbers, among}
 use Rattle.format.specs.Body.{Body, body-categories, body-phases}
-use Rattle.format.specs.Variant.{file-variant, no-variant}
+use Rattle.format.specs.Variant.{no-variant}
 use Rattle.format.specs.Layout.{Fixed, fixed-bytes, arrays-bytes, arrays-of, joined, Layout, fixed-of, layout-bytes, LayoutObeys}
 use Rattle.format.specs.Header.{read-fixed, read-layout}
 use Rattle.format.specs.File.{read-all, variant-as}
 use Rattle.format.specs.Reply.{refusal-of, holds-row, holds-set, with-layout, checked, past-last, header-call, check-out, check-call, out-as}
 use Rattle.format.specs.Reply.{read-as, read-call, phases-call, lookup-out, lookup-call, view-out, view-call, flip-out, flip-call}
 use Rattle.format.proofs.Rules.{Holds, never-both}
-use Rattle.format.proofs.Refuses.{Refuses, Among, HeaderNumber, RecordNumber}
+use Rattle.format.proofs.Refuses.{RefusalIs, is-need-of, is-map, no-other-class, Refuses, Among, HeaderNumber, RecordNumber}
 use Rattle.format.proofs.ArraysLaws.{fixed-length, header-apart}
 use Rattle.format.proofs.HeaderLaws.{IsLayout, obeying-read-back, layout-as-written}
 use Rattle.format.proofs.FileLaws.{AllBytes, bodies-are-bytes}
@@ -29,7 +29,6 @@ use Rattle.format.proofs.HeaderRefusals.{header-refusals}
 use Rattle.format.proofs.CallRefusals.{all-refusals, variant-refusals}
 use Rattle.head_index.specs.NumbersAt.{fixed-at}
 use Rattle.head_index.proofs.RefusalsByIndex.{fixed-there}
-use Rattle.promises.proofs.PlaceRules.{RefusalIs, apart, is-need-of, is-map}
 use Rattle.promises.proofs.HeaderNames.{HeaderIs, header-is}
 use Rattle.promises.proofs.RecordFaults.{InRecord, RecordOf, IfRecord, variant-faults, all-faults}
 
@@ -52,7 +51,7 @@ layout-counts K file l p y e =
 pub record PlaceIs (K : ℕ) (file : List ℕ) (E Q : Layout → Refusal → Type 0) (why : Refusal) : Type 0 where
   pub in-header : among header-numbers (why .number) ≡ true → HeaderIs K file why
   pub at-zero : among call-numbers (why .number) ≡ true → why .place ≡ 0
-  pub names-zero : why .number ≡ 0 → why .variant ≡ file-variant 0
+  pub if-zero : why .number ≡ 0 → why ≡ refusal 0 0
   pub names-none : among (10 ∷ 21 ∷ []) (why .number) ≡ true → why .variant ≡ no-variant (fixed-at file .variants)
   pub out-of-range : why .number ≡ 11 → (l : Layout) × (read-layout K file ≡ ok l []) × E l why
   pub in-record : among record-numbers (why .number) ≡ true → (l : Layout) × (read-layout K file ≡ ok l []) × Q l why
@@ -69,29 +68,29 @@ module _ (K : ℕ) (file : List ℕ) (E Q : Layout → Refusal → Type 0) where
   of-header : (why : Refusal) → HeaderNumber (why .number) → HeaderIs K file why → PlaceIs K file E Q why
   of-header why h i = record {
     in-header = λ t. i;
-    at-zero = λ t. apart header-numbers call-numbers (why .number) refl h t;
-    names-zero = λ t. never-both h (ap (among header-numbers) t);
-    names-none = λ t. apart header-numbers (10 ∷ 21 ∷ []) (why .number) refl h t;
+    at-zero = λ t. no-other-class header-numbers call-numbers (why .number) refl h t;
+    if-zero = λ t. never-both h (ap (among header-numbers) t);
+    names-none = λ t. no-other-class header-numbers (10 ∷ 21 ∷ []) (why .number) refl h t;
     out-of-range = λ t. never-both h (ap (among header-numbers) t);
-    in-record = λ t. apart header-numbers record-numbers (why .number) refl h t;
+    in-record = λ t. no-other-class header-numbers record-numbers (why .number) refl h t;
   }
 
   -- 10 and 21; 11
   of-none : (number : ℕ) → Among (10 ∷ 21 ∷ []) number → (m : ℕ) → fixed-at file .variants ≡ m → PlaceIs K file E Q (named (no-variant m) (refusal number 0))
   of-none number h m e = record {
-    in-header = λ t. apart (10 ∷ 21 ∷ []) header-numbers number refl h t;
+    in-header = λ t. no-other-class (10 ∷ 21 ∷ []) header-numbers number refl h t;
     at-zero = λ t. refl;
-    names-zero = λ t. never-both h (ap (among (10 ∷ 21 ∷ [])) t);
+    if-zero = λ t. never-both h (ap (among (10 ∷ 21 ∷ [])) t);
     names-none = λ t. ap no-variant (sym e);
     out-of-range = λ t. never-both h (ap (among (10 ∷ 21 ∷ [])) t);
-    in-record = λ t. apart (10 ∷ 21 ∷ []) record-numbers number refl h t;
+    in-record = λ t. no-other-class (10 ∷ 21 ∷ []) record-numbers number refl h t;
   }
 
   of-eleven : (v : FileVariant) (l : Layout) → read-layout K file ≡ ok l [] → E l (named v (refusal 11 0)) → PlaceIs K file E Q (named v (refusal 11 0))
   of-eleven v l e asked = record {
     in-header = λ t. never-both t refl;
     at-zero = λ t. refl;
-    names-zero = λ t. absurd (omega arith);
+    if-zero = λ t. absurd (omega arith);
     names-none = λ t. never-both t refl;
     out-of-range = λ t. (l, e, asked);
     in-record = λ t. never-both t refl;
@@ -99,10 +98,10 @@ module _ (K : ℕ) (file : List ℕ) (E Q : Layout → Refusal → Type 0) where
 
   of-record : (why : Refusal) → RecordNumber (why .number) → (l : Layout) → read-layout K file ≡ ok l [] → Q l why → PlaceIs K file E Q why
   of-record why h l e q = record {
-    in-header = λ t. apart record-numbers header-numbers (why .number) refl h t;
-    at-zero = λ t. apart record-numbers call-numbers (why .number) refl h t;
-    names-zero = λ t. never-both h (ap (among record-numbers) t);
-    names-none = λ t. apart record-numbers (10 ∷ 21 ∷ []) (why .number) refl h t;
+    in-header = λ t. no-other-class record-numbers header-numbers (why .number) refl h t;
+    at-zero = λ t. no-other-class record-numbers call-numbers (why .number) refl h t;
+    if-zero = λ t. never-both h (ap (among record-numbers) t);
+    names-none = λ t. no-other-class record-numbers (10 ∷ 21 ∷ []) (why .number) refl h t;
     out-of-range = λ t. never-both h (ap (among record-numbers) t);
     in-record = λ t. (l, e, q);
   }
@@ -112,7 +111,7 @@ module _ (K : ℕ) (file : List ℕ) (E Q : Layout → Refusal → Type 0) where
   placed (ok a left) r = record {
     in-header = λ t. never-both t refl;
     at-zero = λ t. never-both t refl;
-    names-zero = λ t. refl;
+    if-zero = λ t. refl;
     names-none = λ t. never-both t refl;
     out-of-range = λ t. absurd (omega arith);
     in-record = λ t. never-both t refl;

@@ -7,6 +7,7 @@ use mathlib.Core.List.{List, [], _∷_, _++_}
 use lib.ListN.{length, getD, take, drop}
 use lib.Dec.{eqb, lit<}
 use lib.Seq.{take-append-seam}
+use native.Mathlib.Omega.{arith}
 use Rattle.format.specs.declared.Refusal.{Refusal}
 use Rattle.format.specs.declared.Reply.the-variants.{Accepted, Refused}
 use Rattle.format.specs.Base.{Bytes, Out, ok, refused, refusal, map-out}
@@ -29,8 +30,9 @@ use Rattle.read_record.specs.Recorded.{RecordLeft, record-left}
 use Rattle.call_rows.specs.declared.Rows.{Rows}
 use Rattle.call_rows.specs.Calls.{next-record, Left, alone, leaning, read-at, stepped, next-row-in, next-row-call}
 use Rattle.call_rows.specs.Phased.{LeftPhased, phased-stepped, next-phased-row-in, next-phased-row-call}
-use Rattle.call_rows.proofs.RowRefusals.{next-row-numbers, next-row-refusals, refused-next-row, refused-next-row-stays}
-use Rattle.call_rows.proofs.PhasedRows.{refused-phases, next-phased-row-refusals, refused-next-phased-row, refused-next-phased-row-stays}
+use Rattle.call_rows.proofs.RowRefusals.{next-row-numbers, StepNames, next-row-refusals, next-row-names, refused-next-row, refused-next-row-stays}
+use Rattle.call_rows.proofs.PhasedRows.{refused-phases, next-phased-row-refusals, next-phased-row-names, refused-next-phased-row}
+use Rattle.call_rows.proofs.PhasedRows.{refused-next-phased-row-stays}
 use Rattle.promises.proofs.FlipPromises.{done}
 use Rattle.promises.proofs.KeptPlaces.{Outside, call-keeps}
 
@@ -80,6 +82,18 @@ told-refused {reply = reply} n h = go (reply .accepted) refl
 
 -- ---- a step of rows
 
+-- what a refused step names is so of any reply: an accepted one has number 0
+either-names : (rows : Rows) (reply : Verdict) → (reply .accepted ≡ true → reply .refusal ≡ refusal 0 0)
+    → (reply .accepted ≡ false → StepNames rows (reply .refusal)) → StepNames rows (reply .refusal)
+either-names rows reply plain names = go (reply .accepted) refl
+  where
+    none : StepNames rows (refusal 0 0)
+    none = record { names-zero = λ t. absurd (omega arith); names-none = λ t. never-both t refl; names-type = λ t. absurd (omega arith) }
+
+    go : (b : Bool) → reply .accepted ≡ b → StepNames rows (reply .refusal)
+    go true e = subst (StepNames rows) (sym (plain e)) none
+    go false e = names e
+
 module _ (rows : Rows) (file output work : List ℕ) where
   -- an accepted one has refusal 0 and place 0
   abbrev Plain : Left → Type 0
@@ -109,6 +123,9 @@ module _ (rows : Rows) (file output work : List ℕ) where
     step-numbered =
         made-numbered next-row-numbers refl (next-row-call rows file output work .verdict) step-plain (next-row-refusals rows file output work y)
 
+    pub step-names : StepNames rows (next-row-call rows file output work .verdict .refusal)
+    step-names = either-names rows (next-row-call rows file output work .verdict) step-plain (next-row-names rows file output work y)
+
     module _ (h : next-row-call rows file output work .verdict .refusal .number ≡ 0 → ⊥) where
       pub step-untouched : next-row-call rows file output work .output ≡ output
       step-untouched = refused-next-row rows file output work y (told-refused step-numbered h)
@@ -137,6 +154,9 @@ module _ (rows : Rows) (file output work : List ℕ) where
       pub both-numbered : Numbered next-row-numbers (both .row .verdict)
       both-numbered =
           made-numbered next-row-numbers refl (both .row .verdict) both-plain (λ e. next-phased-row-refusals rows file output phases work e y)
+
+      pub both-names : StepNames rows (both .row .verdict .refusal)
+      both-names = either-names rows (both .row .verdict) both-plain (λ e. next-phased-row-names rows file output phases work e y)
 
       module _ (h : both .row .verdict .refusal .number ≡ 0 → ⊥) where
         denied : both .row .verdict .accepted ≡ false

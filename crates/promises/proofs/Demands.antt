@@ -25,6 +25,7 @@ use Rattle.format.specs.Reply.{View, view-call, Written, write-call, member, Fl
 use Rattle.format.proofs.FlipLaws.{SameLayout}
 use Rattle.call_rows.specs.declared.Rows.{Rows}
 use Rattle.call_rows.specs.Calls.{Left, start-rows-call, next-row-call}
+use Rattle.call_rows.proofs.RowRefusals.{StepNames}
 use Rattle.promises.proofs.Programs.{Meets, Says}
 use Rattle.promises.proofs.DemandLaws.{OneOf, Numbered}
 use Rattle.promises.proofs.PhasedDemands.{Phased-1, Phased-2, Phased-3}
@@ -109,7 +110,7 @@ pub record Demand-1 (M : Type 1) : Type 2 where
   -- The place: 1 to 9 within the file or at its length; 10, 11 and 21 at 0; 12 at the end of the record at fault, 13 to 18 and 23 to 25 at one of its
   -- bytes. The variant: 0 in 1 to 4; M in 5, 6, 7, 9, 10 and 21; in 8 the first whose type is not allowed, and the place is the byte that holds it; in 11
   -- the one that was asked for, or M if it is not below M; in 12 to 18 and 23 to 25 the one whose record is at fault: it is below M, the place lies in its
-  -- record, and that record is refused so over some anchor's categories; of a read and a lookup it is the variant that was asked for, or its anchor.
+  -- record, and that record is refused so, read over some row; of a read and a lookup it is the variant that was asked for, or its anchor.
   pub header-place-is : (file : List ℕ) → Bytes file → PlaceIs K file Never Never (header file .verdict .refusal)
   pub check-place-is : (file work : List ℕ) → Bytes file → PlaceIs K file Never (InRecord K) (check file work .reply .verdict .refusal)
   pub read-place-is : (file : List ℕ) (v : FileVariant) (output work : List ℕ) → Bytes file
@@ -120,7 +121,9 @@ pub record Demand-1 (M : Type 1) : Type 2 where
   pub flip-place-is : (file set work : List ℕ) → Bytes file → PlaceIs K file Never (InRecord K) (flip file set work .verdict .refusal)
   pub start-rows-place-is : (file work : List ℕ) → Bytes file
       → PlaceIs K file Never Never (verdict (start-rows file work) .refusal)
-  -- (A step from a start has the place and the variant that a read has, by demand 2. Where no start gave the state nothing is said of them.)
+  -- (A step from a start has the place and the variant that a read has, by demand 2.) From any state a step's 4 names 0, its 9, 10 and 11 the state's M, its 8
+  -- the state's variant, at the byte that holds its type. Of a record's refusals nothing more is said where no start gave the state.
+  pub next-row-names : (state : Rows) (file output work : List ℕ) → Bytes file → StepNames state (next-row state file output work .verdict .refusal)
   -- The writer's: 20 at the index of the first category above 3, in the categories or else in the anchor; every other at 0. Each names 0.
   pub write-place-is : (categories : List ℕ) (kind code : ℕ) (anchor output : List ℕ)
       → WritePlaceIs categories anchor (write categories kind code anchor output .verdict .refusal)

@@ -19,7 +19,7 @@ use Rattle.format.proofs.CallRefusals.{write-refusals, flip-numbers, flip-refus
 use Rattle.call_rows.specs.Calls.{first-row, start-rows-call}
 use Rattle.call_rows.proofs.RowRefusals.{start-rows-numbers, start-rows-refusals}
 use Rattle.promises.proofs.Programs.{meets, says}
-use Rattle.promises.proofs.DemandLaws.{one-of, verdict-numbered, step-numbered, step-untouched, step-stays, written-back, kept-places, same-layout}
+use Rattle.promises.proofs.DemandLaws.{one-of, verdict-numbered, step-numbered, step-names, step-untouched, step-stays, written-back, kept-places, same-layout}
 use Rattle.promises.proofs.CallLaws.{refused-read, refused-write, refused-flip, check-exactly}
 use Rattle.promises.proofs.CallPlaces.{header-place, check-place, read-place, lookup-place, view-place, flip-place, start-place}
 use Rattle.promises.proofs.WritePlaces.{write-place}
@@ -59,6 +59,7 @@ demand-1 = record {
   start-rows-numbers-are = λ file work.
       verdict-numbered start-rows-numbers refl (start-rows-call file work) (start-rows-refusals file work);
   next-row-numbers-are = step-numbered;
+  next-row-names = step-names;
   header-place-is = λ file y. header-place K file (lit< tt) y;
   check-place-is = λ file work y. check-place K file (lit< tt) y work;
   read-place-is = λ file v output work y. read-place K file (lit< tt) y v output work;

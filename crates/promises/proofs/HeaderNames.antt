@@ -19,6 +19,7 @@ use Rattle.format.specs.Layout.{block-offsets, type-allowed, TypesAllowed, Colu
 use Rattle.format.specs.Header.{Header, header-with, need-fixed, read-arrays, type-place, need-types, read-after-fixed, need-offsets, split-bodies}
 use Rattle.format.specs.Header.{read-bodies, read-data, read-layout}
 use Rattle.format.proofs.Rules.{Holds, by-need-of, by-bind, by-naming, by-numbered, below-drop, never-both, split}
+use Rattle.format.proofs.Refuses.{RefusalIs, is-need, is-need-of, is-map, is-bind, no-other-class}
 use Rattle.format.proofs.NumbersLaws.{numbers-length}
 use Rattle.format.proofs.OffsetsLaws.{by-types, types-pass}
 use Rattle.format.proofs.ArraysLaws.{fixed-length, AreArrays, arrays-as-written, header-apart}
@@ -28,7 +29,6 @@ use Rattle.head_index.specs.Known.{Known}
 use Rattle.head_index.specs.Rules.{after-fixed}
 use Rattle.head_index.proofs.PlaceLaws.{type-at-is, in-parts-blocked}
 use Rattle.head_index.proofs.RefusalsByIndex.{refusal-1, refusals-2-to-5, fixed-at-written}
-use Rattle.promises.proofs.PlaceRules.{RefusalIs, apart, is-need, is-need-of, is-map, is-bind}
 use Rattle.promises.proofs.HeaderPlaces.{AtMost, arrays-inside, bodies-inside, type-inside, zeros-allowed}
 
 -- 02, Ask 2: 8 names the variant in whose type the fault lies, "the lower one where one byte holds two such types". That type is not allowed, each
@@ -104,14 +104,14 @@ module _ (K : ℕ) (bs : List ℕ) (p : zero < K) (y : Bytes bs) where
   zeroth number place t l = record {
     in-file = l;
     names-zero = λ q. refl;
-    names-none = λ q. apart (1 ∷ 2 ∷ 3 ∷ 4 ∷ []) (5 ∷ 6 ∷ 7 ∷ 9 ∷ []) number refl t q;
+    names-none = λ q. no-other-class (1 ∷ 2 ∷ 3 ∷ 4 ∷ []) (5 ∷ 6 ∷ 7 ∷ 9 ∷ []) number refl t q;
     names-type = λ q. never-both t (ap (among (1 ∷ 2 ∷ 3 ∷ 4 ∷ [])) q);
   }
 
   none : (number place : ℕ) → among (5 ∷ 6 ∷ 7 ∷ 9 ∷ []) number ≡ true → place ≤ length bs → P (named (no-variant (f .variants)) (refusal number place))
   none number place t l = record {
     in-file = l;
-    names-zero = λ q. apart (1 ∷ 2 ∷ 3 ∷ 4 ∷ []) (5 ∷ 6 ∷ 7 ∷ 9 ∷ []) number refl q t;
+    names-zero = λ q. no-other-class (1 ∷ 2 ∷ 3 ∷ 4 ∷ []) (5 ∷ 6 ∷ 7 ∷ 9 ∷ []) number refl q t;
     names-none = λ q. refl;
     names-type = λ q. never-both t (ap (among (5 ∷ 6 ∷ 7 ∷ 9 ∷ [])) q);
   }

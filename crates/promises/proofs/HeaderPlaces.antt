@@ -19,11 +19,12 @@ use Rattle.format.specs.Layout.{block-sizes, block-bytes, in-parts, type-allowe
 use Rattle.format.specs.Header.{read-block, read-blocks, read-blocked, read-arrays}
 use Rattle.format.specs.Header.{block-place, type-place, split-bodies}
 use Rattle.format.proofs.Rules.{by-test}
+use Rattle.format.proofs.Refuses.{RefusalIs, is-map, is-then}
 use Rattle.format.proofs.PackedLaws.{packed-length}
 use Rattle.head_index.specs.Known.{Known}
 use Rattle.head_index.specs.VariantsAt.{block-variants}
 use Rattle.head_index.proofs.PlaceLaws.{TwoNumbers, two-numbers, column-length, block-at}
-use Rattle.promises.proofs.PlaceRules.{RefusalIs, is-map, is-then, numbers-places, bytes-places, packed-places}
+use Rattle.promises.proofs.PlaceRules.{numbers-places, bytes-places, packed-places}
 
 -- not past the end
 abbrev pub AtMost : ℕ → Refusal → Type 0

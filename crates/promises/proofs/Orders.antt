@@ -71,6 +71,10 @@ list-reply N end bs =
 abbrev two-groups : ℕ → ℕ → List ℕ
 two-groups size head = (65 ∷ 0 ∷ head ∷ size ∷ []) ++ (replicate 16 0x55 ++ (1 ∷ replicate 63 1))
 
+-- one of 129 samples in three groups, whose size bytes stand at the 6th and 7th of its 166 bytes
+abbrev three-groups : ℕ → ℕ → List ℕ
+three-groups first second = (0x81 ∷ 1 ∷ 0 ∷ 64 ∷ 128 ∷ first ∷ second ∷ []) ++ (replicate 32 0x55 ++ (1 ∷ replicate 126 1))
+
 -- a file of one variant and five samples, of a kind: its record starts at byte 22
 abbrev of-kind : ℕ → List ℕ → List ℕ
 of-kind kind body = set (set (one-record body) 20 kind) 21 (length body)
@@ -121,7 +125,7 @@ orders =
     -- 9 before 10 before 11; 11 before the records
     ∷ (read (set A 12 0) 3 4 gives (9 ∷ 12 ∷ 3 ∷ []))
     ∷ (read A 3 4 gives (10 ∷ 0 ∷ 3 ∷ []))
-    ∷ (read (set A 26 0xff) 3 5 gives (11 ∷ 0 ∷ 3 ∷ []))
+    ∷ (read (set A 26 0xff) 4 5 gives (11 ∷ 0 ∷ 3 ∷ []))
     -- an anchor before the record that leans on it; a record's own fault where the anchor has none; no other record is looked at
     ∷ (read (set (set A 26 0x04) 29 0x05) 1 5 gives (18 ∷ 26 ∷ 0 ∷ []))
     ∷ (read (set A 29 0x05) 1 5 gives (17 ∷ 29 ∷ 1 ∷ []))
@@ -131,13 +135,13 @@ orders =
     ∷ (lookup A 3 5 4 gives (10 ∷ 0 ∷ 3 ∷ []))
     ∷ (lookup (set A 26 0xff) 3 0 5 gives (11 ∷ 0 ∷ 3 ∷ []))
     ∷ (lookup (set A 29 0x05) 1 5 5 gives (11 ∷ 0 ∷ 1 ∷ []))
-    ∷ (lookup A 3 5 5 gives (11 ∷ 0 ∷ 3 ∷ []))
+    ∷ (lookup A 4 5 5 gives (11 ∷ 0 ∷ 3 ∷ []))
     ∷ (lookup (set (set A 26 0x04) 29 0x05) 1 0 5 gives (18 ∷ 26 ∷ 0 ∷ []))
     ∷ (lookup (set A 29 0x05) 1 0 5 gives (17 ∷ 29 ∷ 1 ∷ []))
     ∷ (lookup (set A 29 0x05) 2 0 5 gives (0 ∷ 0 ∷ 0 ∷ []))
     -- a view: 9 before 11, and no record
     ∷ (view (set A 12 0) 3 gives (9 ∷ 12 ∷ 3 ∷ []))
-    ∷ (view (set A 29 0x05) 3 gives (11 ∷ 0 ∷ 3 ∷ []))
+    ∷ (view (set A 29 0x05) 4 gives (11 ∷ 0 ∷ 3 ∷ []))
     ∷ (view (set A 29 0x05) 1 gives (0 ∷ 0 ∷ 0 ∷ []))
     -- a whole-file check: 9 before 10 before the records, in variant order
     ∷ (check (set A 12 0) 4 gives (9 ∷ 12 ∷ 3 ∷ []))
@@ -217,6 +221,10 @@ orders =
     ∷ (list-reply 256 100 (set (two-groups 0 63) 20 0) gives (23 ∷ 18 ∷ []))
     ∷ (list-reply 200 100 (set (two-groups 0 200) 20 0) gives (24 ∷ 18 ∷ []))
     ∷ (list-reply 256 100 (set (two-groups 0 64) 20 0) gives (17 ∷ 36 ∷ []))
+    -- 25 at its own size byte, of the first group that has a wrong one
+    ∷ (list-reply 256 300 (three-groups 0 0) gives (0 ∷ 0 ∷ []))
+    ∷ (list-reply 256 300 (three-groups 1 1) gives (25 ∷ 139 ∷ []))
+    ∷ (list-reply 256 300 (three-groups 0 1) gives (25 ∷ 140 ∷ []))
     ∷ []
 
 pub orders-hold : map (λ (e : Example). e .what) orders ≡ map (λ (e : Example). e .is) orders

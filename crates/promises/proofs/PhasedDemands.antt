@@ -25,8 +25,9 @@ use Rattle.format.specs.Reply.{Verdict, keeps-work, samples-of, check-call, Rea
 use Rattle.format.proofs.CallRefusals.{read-call-numbers, read-refusals, write-phased-refusals}
 use Rattle.call_rows.specs.declared.Rows.{Rows}
 use Rattle.call_rows.specs.Calls.{answered, start-rows-call}
+use Rattle.call_rows.proofs.RowRefusals.{StepNames}
 use Rattle.call_rows.specs.Phased.{LeftPhased, phased-row-left, next-phased-row-call}
-use Rattle.promises.proofs.DemandLaws.{Numbered, verdict-numbered, both-numbered, both-untouched, both-stays}
+use Rattle.promises.proofs.DemandLaws.{Numbered, verdict-numbered, both-numbered, both-names, both-untouched, both-stays}
 use Rattle.promises.proofs.CallLaws.{refused-phases, refused-phased-write}
 use Rattle.promises.proofs.RecordFaults.{RecordOf}
 use Rattle.promises.proofs.CallPlaces.{PlaceIs, AskedFor, phases-place}
@@ -65,7 +66,8 @@ next-phased-row state file output phases work = next-phased-row-call state file 
 abbrev write : List ℕ → List ℕ → ℕ → ℕ → List ℕ → List ℕ → Written
 write categories phases kind code anchor output = write-phased-call categories phases kind code anchor output
 
--- "Every input gets a reply; no caller has to check first. A refusal has a number and a place, and leaves every output and the file untouched."
+-- "Every input gets a reply; no caller has to check first. A refusal has a number and a place, names the variant at fault, and leaves every output and the
+-- file untouched."
 pub record Phased-1 : Type 0 where
   -- The reading of phases refuses with 1 to 18 and 23 to 25, as a read does;
   pub phases-numbers-are : (file : List ℕ) (v : FileVariant) (output work : List ℕ) → Bytes file
@@ -76,11 +78,14 @@ pub record Phased-1 : Type 0 where
   -- the writer of phased records with 4, 10, 19, 20 and 22.
   pub write-numbers-are : (categories phases : List ℕ) (kind code : ℕ) (anchor output : List ℕ)
       → Numbered phased-writer-numbers (write categories phases kind code anchor output .verdict)
-  -- The places are a read's; the writer's 20 and 22 stand at the index of the first category above 3 and of the first phase that is not allowed.
+  -- Place and variant are a read's; the writer's 20 and 22 stand at the index of the first category above 3 and of the first phase that is not allowed, and
+  -- each of its refusals names 0; what a step names from any state is as of one that gives categories alone.
   pub phases-place-is : (file : List ℕ) (v : FileVariant) (output work : List ℕ) → Bytes file
       → PlaceIs K file (AskedFor v) (RecordOf K v) (phases-of file v output work .verdict .refusal)
   pub write-place-is : (categories phases : List ℕ) (kind code : ℕ) (anchor output : List ℕ)
       → PhasedPlaceIs categories phases anchor (write categories phases kind code anchor output .verdict .refusal)
+  pub next-phased-row-names : (state : Rows) (file output phases work : List ℕ) → Bytes file
+      → StepNames state (next-phased-row state file output phases work .row .verdict .refusal)
   -- Refused, they leave the output as it was, a step both outputs; the work area is left as a read leaves it, or as a step does.
   pub phases-untouched : (file : List ℕ) (v : FileVariant) (output work : List ℕ) → Refused (phases-of file v output work .verdict)
       → phases-of file v output work .output ≡ output
@@ -176,6 +181,7 @@ phased-1 = record {
   phases-numbers-are = λ file v output work y.
       verdict-numbered read-call-numbers refl (out-as body-phases K file v output work) (read-refusals body-phases K file v output work (lit< tt) y);
   next-phased-row-numbers-are = λ state file output phases work y. both-numbered state file output work phases y;
+  next-phased-row-names = λ state file output phases work y. both-names state file output work phases y;
   write-numbers-are = λ categories phases kind code anchor output.
       verdict-numbered phased-writer-numbers refl (write-phased categories phases kind code anchor (length output))
       (write-phased-refusals categories phases kind code anchor (length output));

@@ -44,7 +44,7 @@ both-called file at output phases = next-phased-row-call (at .rows) file output 
 
 -- ---- what is to be shown
 
--- number, place and output are those of a read of variant v; number, place and phases those of the reading of its phases
+-- the refusal (number, place and variant) and the output are those of a read of variant v; the refusal and the phases those of the reading of its phases
 pub record AsBothRead (file work : List ℕ) (v : ℕ) (output phases : List ℕ) (left : LeftPhased) : Type 0 where
   pub as-read : AsRead file work v output (left .row)
   pub verdict-of-phases : left .row .verdict ≡ phases-call K file (file-variant v) phases work .verdict

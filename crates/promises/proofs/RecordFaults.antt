@@ -14,15 +14,15 @@ use Rattle.format.specs.Variant.{file-variant, next-variant, anchor}
 use Rattle.format.specs.Layout.{sum, first-record, Layout, fixed-of, record-start, LayoutObeys}
 use Rattle.format.specs.File.{next-anchor, read-records, read-all, type-of, variant-leans, read-over, over-as, variant-as}
 use Rattle.format.proofs.Rules.{by-test}
-use Rattle.format.proofs.Refuses.{RecordNumber}
+use Rattle.format.proofs.Refuses.{RefusalIs, is-wider, is-map, is-then, RecordNumber}
 use Rattle.format.proofs.AnchorLaws.{IsAnchor, anchor-is}
 use Rattle.format.proofs.FileLaws.{AllBytes, one-type-each}
 use Rattle.format.proofs.CallRefusals.{stored-bytes}
 use Rattle.head_index.proofs.StartLaws.{record-end}
-use Rattle.promises.proofs.PlaceRules.{RefusalIs, is-wider, is-map, is-then, Within, RefusedWithin}
+use Rattle.promises.proofs.PlaceRules.{Within, RefusedWithin}
 use Rattle.promises.proofs.RecordPlaces.{body-places}
 
--- the record of the variant that is named is refused so, over some anchor's categories, at its end (12) or at one of its bytes
+-- the record of the variant that is named is refused so, read over some row, at its end (12) or at one of its bytes
 pub record InRecord (K : ℕ) (l : Layout) (why : Refusal) : Type 0 where
   pub there : why .variant .0 < length (l .bodies)
   pub lent : List ℕ

@@ -21,12 +21,13 @@ use Rattle.format.specs.Track.{off-category, off-anchor, rule, bit-set, as-read
 use Rattle.format.specs.Phase.{phased, phases-bytes, first-count, presence, ones, read-phase-track, read-phases}
 use Rattle.format.specs.Body.{kind-of, type-phased, track-heterozygous, Body, ended, read-body}
 use Rattle.format.proofs.Rules.{by-test, never-both, below-after}
+use Rattle.format.proofs.Refuses.{RefusalIs, is-need, is-map, is-bind}
 use Rattle.format.proofs.VarintLaws.{IsVarint, varint-as-written}
 use Rattle.format.proofs.NumbersLaws.{AreNumbers, numbers-as-written, numbers-length, AreBytes, bytes-as-written}
 use Rattle.format.proofs.PackedLaws.{ArePacked, packed-as-written, packed-length}
 use Rattle.format.proofs.TrackLaws.{IsPairCode, pair-code-as-written, IsTrack, track-as-written}
 use Rattle.format.proofs.PhaseLaws.{IsPhases, phases-as-written}
-use Rattle.promises.proofs.PlaceRules.{RefusalIs, is-need, is-map, is-bind, numbers-places, bytes-places, packed-places, RefusedWithin}
+use Rattle.promises.proofs.PlaceRules.{numbers-places, bytes-places, packed-places, RefusedWithin}
 
 -- what is left is not longer than what was there
 left-shorter : (bs front left : List ℕ) → bs ≡ front ++ left → length front + length left ≡ length bs

@@ -57,7 +57,7 @@ from rows work = record { rows = rows; work = work }
 
 -- ---- what is to be shown
 
--- number, place and output are those of a read of variant v; the work area, which a read clears, is left out
+-- number, place, variant and output are those of a read of variant v; the work area, which a read clears, is left out
 abbrev pub AsRead : List ℕ → List ℕ → ℕ → List ℕ → Left → Type 0
 AsRead file work v output left =
     (left .verdict ≡ read-call K file (file-variant v) output work .verdict) × (left .output ≡ read-call K file (file-variant v) output work .output)

@@ -22,9 +22,9 @@ use Rattle.format.specs.Phase.{first-of, rest-of}
 use Rattle.format.specs.Reply.{refusal-of, write-call, write-phased-call}
 use Rattle.format.specs.Variant.{file-variant}
 use Rattle.format.proofs.Rules.{never-both, split}
+use Rattle.format.proofs.Refuses.{RefusalIs, is-need, is-then}
 use Rattle.format.proofs.PhaseWriterLaws.{AllAllowed}
 use Rattle.promises.proofs.PhasedWriteExactly.{first-at, rest-at}
-use Rattle.promises.proofs.PlaceRules.{RefusalIs, is-need, is-then}
 
 -- the first category above 3 of a buffer
 pub record FirstAbove (categories : List ℕ) (index : ℕ) : Type 0 where
