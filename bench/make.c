@@ -195,20 +195,40 @@ u8 pick_type(usize variant, int phased)
     return phased && rnd() % 4 ? kind | 16 : kind;
 }
 
-struct bodies *make_bodies(usize samples, usize bytes, int phased)
+static struct bodies *no_bodies(usize samples, usize bytes)
 {
-    static struct before before;
     struct bodies *b = pages(sizeof *b);
     b->samples = samples;
     b->bytes = pages(bytes + 65536);
     b->lengths = pages(16777216 * sizeof(u32));
     b->types = pages(16777216);
-    for (u8 *p = b->bytes, *end; p < b->bytes + bytes && b->variants < 16777216; p = end) {
-        u8 type = pick_type(b->variants, phased);
-        end = put_record(p, samples, type, &before);
-        b->types[b->variants] = type;
-        b->lengths[b->variants++] = end - p;
-    }
+    return b;
+}
+
+// One record more, at `p`; gives where it ends.
+static u8 *put_next(struct bodies *b, u8 *p, u8 type)
+{
+    static struct before before;
+    u8 *end = put_record(p, b->samples, type, &before);
+    b->types[b->variants] = type;
+    b->lengths[b->variants++] = end - p;
+    return end;
+}
+
+struct bodies *make_bodies(usize samples, usize bytes, int phased)
+{
+    struct bodies *b = no_bodies(samples, bytes);
+    for (u8 *p = b->bytes; p < b->bytes + bytes && b->variants < 16777216;) p = put_next(b, p, pick_type(b->variants, phased));
+    return b;
+}
+
+// So many records of one type; if it leans, they lean on one before them of kind 0. None has more bytes than samples.
+struct bodies *make_alike(usize samples, usize variants, u8 type)
+{
+    struct bodies *b = no_bodies(samples, variants * samples);
+    int leans = (type & 7) == 2 || (type & 7) == 3;
+    u8 *p = b->bytes;
+    while (b->variants < variants) p = put_next(b, p, leans && b->variants == 0 ? type & 16 : type);
     return b;
 }
 

@@ -24,6 +24,7 @@ struct before { u8 *body, type; usize size; int read; u8 row[65536]; };
 u8 pick_type(usize variant, int phased);
 u8 *put_record(u8 *p, usize n, u8 type, struct before *before);
 struct bodies *make_bodies(usize samples, usize bytes, int phased);
+struct bodies *make_alike(usize samples, usize variants, u8 type);
 void drop_bodies(struct bodies *b, usize bytes);
 struct file make_file(const struct bodies *b, usize variants, u8 form);
 struct file make_header(usize variants, u8 form);

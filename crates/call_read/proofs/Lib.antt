@@ -1,6 +1,5 @@
 pub mod CheckLaws
 pub mod RowLaws
-pub mod OpenRowLaws
 pub mod ReadLaws
 pub mod PhasesLaws
 pub mod LookupLaws

@@ -64,7 +64,7 @@ module _ (file : List ℕ) (v : FileVariant) (sample : ℕ) (work : List ℕ) (r
     n = open-samples file (length work) f (o .has)
 
     pub has-variant-row : HasVariantRow file file f v work
-    has-variant-row = variant-row file v (length work) f o work (omega arith)
+    has-variant-row = variant-row file v (length work) f o work (omega (arith, o .has .room))
 
     pub room-work : (work₁ : List ℕ) → length work₁ ≡ length work → f .samples ≤ length work₁
     room-work work₁ same = omega (arith, o .has .room)

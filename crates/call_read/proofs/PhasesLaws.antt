@@ -12,60 +12,44 @@ use Rattle.format.specs.declared.HeaderReply.{HeaderReply}
 use Rattle.format.specs.declared.HeaderReply.the-variants as header
 use Rattle.format.specs.declared.Reply.{Reply}
 use Rattle.format.specs.declared.Reply.the-variants.{Accepted, Refused}
-use Rattle.format.specs.Base.{Out, bind, map-out}
+use Rattle.format.specs.Base.{map-out}
 use Rattle.format.specs.Limits.{variants-to-a-block}
 use Rattle.format.specs.Body.{body-phases, Reading, body-reading}
 use Rattle.format.specs.Layout.{Layout}
 use Rattle.format.specs.File.{variant-as}
-use Rattle.format.specs.Reply.{samples-of, read-left, phases-call}
+use Rattle.format.specs.Reply.{read-left, phases-call}
 use Rattle.format.proofs.ReadsLaws.{variant-map}
-use Rattle.call_open.specs.Open.{open-at-out, OpenAt, OpeningAt}
-use Rattle.call_open.proofs.Callers.{ready-at, shut-at, open-samples, samples-are, open-at-is}
+use Rattle.call_open.specs.Open.{OpenAt, OpeningAt}
 use Rattle.head_places.proofs.AcceptedLaws.{one-layout}
-use Rattle.read_file.specs.Rows.{HasVariantRow, VariantPhased}
+use Rattle.read_file.specs.Rows.{VariantPhased}
 use Rattle.read_file.proofs.Replies.{Clears}
 use Rattle.read_file.proofs.PhasedReplies.{ReadingRead, phases-accepted, phases-refused, phases-kept}
-use Rattle.call_read.proofs.RowLaws.{variant-row}
-use Rattle.call_read.proofs.ReadLaws.{read-from, reads-as}
+use Rattle.call_read.proofs.ReadLaws.{read-from, shut-as, opened, read-by, room-laws}
 
 abbrev K : ℕ
 K = variants-to-a-block
 
 module _ (file : List ℕ) (v : FileVariant) (output work : List ℕ) (lent : ℕ) (both : lent ≡ min (length output) (length work))
     (r : HeaderReply) (e : OpeningAt file v lent r) where
-  -- the reply, by what was opened
-  phases-read : (m : Out Layout) → open-at-out K file v lent ≡ m
-      → read-from (samples-of K file) output work (bind m (λ l left. variant-as body-phases K l v)) ≡ phases-call K file v output work
-  unfolding phases-call
-  phases-read m s = reads-as body-phases file v output work lent both _ (ap (λ (m : Out Layout). bind m (λ l left. variant-as body-phases K l v)) s)
-
   -- 1 to 11
   pub phases-shut : (why : Refusal) → r ≡ header.Refused why → read-left (Refused why) output work ≡ phases-call K file v output work
-  phases-shut why q = let s = shut-at file v lent r why e q in simp (s .keeps) at (phases-read _ (s .is))
+  unfolding phases-call
+  phases-shut why q = shut-as file v output work lent both r e body-phases why q
 
   module _ (f : Fields) (q : r ≡ header.Accepted f) where
-    o : OpenAt file v lent f
-    o = ready-at file v lent r f e q
+    abbrev o : OpenAt file v lent f
+    o = opened file v output work lent both r e f q
 
     abbrev l : Layout
     l = o .has .layout
 
-    pub has-variant-row : HasVariantRow file file f v work
-    has-variant-row = variant-row file v lent f o work (omega arith)
-
-    pub room-output : (output₁ : List ℕ) → length output₁ ≡ length output → f .samples ≤ length output₁
-    room-output output₁ same = omega (arith, o .has .room)
-
-    pub room-work : (work₁ : List ℕ) → length work₁ ≡ length work → f .samples ≤ length work₁
-    room-work work₁ same = omega (arith, o .has .room)
-
     -- the phases are those of what is read of the body, categories and phases together
     calls : read-from (f .samples) output work (map-out (λ (z : Reading). z .phases) (variant-as body-reading K l v)) ≡ phases-call K file v output work
+    unfolding phases-call
     calls =
-        let n : samples-of K file ≡ f .samples = samples-are file lent f (o .has) ∙ sym (open-samples file lent f (o .has)) in
-        ap (read-from (f .samples) output work) (sym (variant-map body-reading (λ (z : Reading). z .phases) K l v))
-        ∙ ap (λ (N : ℕ). read-from N output work (variant-as body-phases K l v)) (sym n)
-        ∙ phases-read _ (open-at-is file v lent f o)
+        let whole : variant-as body-phases K l v ≡ map-out (λ (z : Reading). z .phases) (variant-as body-reading K l v)
+        = variant-map body-reading (λ (z : Reading). z .phases) K l v in
+        ap (read-from (f .samples) output work) (sym whole) ∙ read-by file v output work lent both r e f q body-phases
 
     module _ (got : Reply) (work₁ output₁ : List ℕ) (d : VariantPhased file file f v work output got work₁ output₁) where
       -- what was read is read of the layout that was opened
@@ -88,4 +72,4 @@ module _ (file : List ℕ) (v : FileVariant) (output work : List ℕ) (lent : �
           (phases-accepted d s same (omega (arith, o .has .room))) in
           rw (x .phases, b, x .rest) (rw (x .is) at calls)
 
-pub ruleset phases-laws = (phases-shut, has-variant-row, room-output, room-work, phases-not-read, phases-were-read)
+pub ruleset phases-laws = (phases-shut, room-laws, phases-not-read, phases-were-read)

@@ -1,27 +1,34 @@
--- What a read replies and leaves, by what its opening found. What is read of the variant's body may be its categories or its phases.
+-- What a read replies and leaves, by what its opening found and its record was found to be. What is read of the variant's body may be its categories or its
+-- phases.
 -- Assumes nothing.
-use mathlib.Core.Path.{_≡_, sym, ap, _∙_}
+use mathlib.Core.Path.{_≡_, refl, sym, ap, _∙_, subst}
 use Prim.Native.Nat.{ℕ, min, _≤_}
 use mathlib.Core.Bool.{_&&_}
 use mathlib.Core.List.{List, _++_}
-use lib.ListN.{length, take, drop, replicate}
+use lib.ListN.{length, drop}
 use native.Mathlib.Omega.{arith}
 use Rattle.format.specs.declared.FileVariant.{FileVariant}
 use Rattle.format.specs.declared.Fields.{Fields}
 use Rattle.format.specs.declared.Refusal.{Refusal}
 use Rattle.format.specs.declared.HeaderReply.{HeaderReply}
 use Rattle.format.specs.declared.HeaderReply.the-variants as header
+use Rattle.format.specs.declared.Reply.{Reply}
 use Rattle.format.specs.declared.Reply.the-variants.{Accepted, Refused}
-use Rattle.format.specs.Base.{Out, bind}
+use Rattle.format.specs.Base.{Out, ok, refused, bind}
 use Rattle.format.specs.Limits.{variants-to-a-block}
 use Rattle.format.specs.Body.{Body, body-categories}
 use Rattle.format.specs.Layout.{Layout}
-use Rattle.format.specs.File.{variant-as}
-use Rattle.format.specs.Reply.{Read, verdict, refusal-of, given, work-after, samples-of, holds-row, read-left, read-as, read-call}
-use Rattle.call_open.specs.Open.{open-at-out}
-use Rattle.call_open.proofs.Callers.{through-at, holds-both}
-use Rattle.call_read.specs.OpenRow.{open-row-out, RowOpen, OpeningRow}
-use Rattle.call_read.proofs.OpenRowLaws.{shut-row, ready-row}
+use Rattle.format.specs.File.{variant-as, read-variant}
+use Rattle.format.specs.Reply.{Read, verdict, refusal-of, given, emptied, work-after, samples-of, holds-row, read-left, read-as, read-call}
+use Rattle.call_open.specs.Open.{open-at-out, OpenAt, OpeningAt}
+use Rattle.call_open.proofs.Callers.{ready-at, shut-at, through-at, holds-both, open-samples, samples-are, open-at-is}
+use Rattle.head_places.proofs.AcceptedLaws.{one-layout}
+use Rattle.read_file.specs.Rows.{HasVariantRow, VariantGiven}
+use Rattle.read_file.proofs.Replies.{Given, given-as}
+use Rattle.call_read.proofs.RowLaws.{variant-row}
+
+abbrev K : ℕ
+K = variants-to-a-block
 
 abbrev pub read-from : ℕ → List ℕ → List ℕ → Out (List ℕ) → Read
 read-from N output work m = record {
@@ -30,40 +37,75 @@ read-from N output work m = record {
   work = work-after N (refusal-of m) work;
 }
 
--- the reply, by what of the variant was read: its opening has room in both buffers
-pub reads-as : (what : ℕ → List ℕ → Body → List ℕ) (file : List ℕ) (v : FileVariant) (output work : List ℕ) (lent : ℕ)
-    → lent ≡ min (length output) (length work)
-    → (m : Out (List ℕ)) → bind (open-at-out variants-to-a-block file v lent) (λ l left. variant-as what variants-to-a-block l v) ≡ m
-    → read-from (samples-of variants-to-a-block file) output work m ≡ read-as what variants-to-a-block file v output work
-reads-as what file v output work lent both m s =
-    ap (read-from (samples-of variants-to-a-block file) output work)
-    (sym (through-at file lent (λ (l : Layout). holds-row output l && holds-row work l)
-    (λ l. rw both (holds-both (l .samples) (length output) (length work))) v (λ (l : Layout). variant-as what variants-to-a-block l v)
-    ∙ s))
-
 module _ (file : List ℕ) (v : FileVariant) (output work : List ℕ) (lent : ℕ) (both : lent ≡ min (length output) (length work))
-    (r : HeaderReply) (work₁ : List ℕ) (e : OpeningRow file v lent work work₁ r) where
-  reads : (m : Out (List ℕ)) → open-row-out variants-to-a-block file v lent ≡ m
-      → read-from (samples-of variants-to-a-block file) output work m ≡ read-call variants-to-a-block file v output work
-  unfolding read-call
-  reads m s = reads-as body-categories file v output work lent both m s
+    (r : HeaderReply) (e : OpeningAt file v lent r) where
+  module _ (what : ℕ → List ℕ → Body → List ℕ) where
+    -- the reply, by what was opened: its opening has room in both buffers
+    opened-as : (m : Out Layout) → open-at-out K file v lent ≡ m
+        → read-from (samples-of K file) output work (bind m (λ l left. variant-as what K l v)) ≡ read-as what K file v output work
+    opened-as m s =
+        ap (read-from (samples-of K file) output work)
+        (sym (through-at file lent (λ (l : Layout). holds-row output l && holds-row work l)
+        (λ l. rw both (holds-both (l .samples) (length output) (length work))) v (λ (l : Layout). variant-as what K l v)
+        ∙ ap (λ (m : Out Layout). bind m (λ l left. variant-as what K l v)) s))
 
-  -- 1 to 18 and 23 to 25
-  pub read-shut : (why : Refusal) → r ≡ header.Refused why → read-left (Refused why) output work₁ ≡ read-call variants-to-a-block file v output work
-  read-shut why q = let s = shut-row file v lent work work₁ r e why q in rw (s .left) (reads _ (s .is))
+    -- 1 to 11
+    pub shut-as : (why : Refusal) → r ≡ header.Refused why → read-left (Refused why) output work ≡ read-as what K file v output work
+    shut-as why q = let s = shut-at file v lent r why e q in simp (s .keeps) at (opened-as _ (s .is))
 
   module _ (f : Fields) (q : r ≡ header.Accepted f) where
-    o : RowOpen file v lent f work work₁
-    o = ready-row file v lent work work₁ r e f q
+    pub opened : OpenAt file v lent f
+    opened = ready-at file v lent r f e q
 
-    pub room-output : f .samples ≤ length output
-    room-output = omega (arith, o .room)
+    abbrev pub layout : Layout
+    layout = opened .has .layout
 
-    pub room-work : length work₁ ≡ length work → f .samples ≤ length work₁
-    room-work same = omega (arith, o .room)
+    pub has-variant-row : (buffer : List ℕ) → f .samples ≤ length buffer → HasVariantRow file file f v buffer
+    has-variant-row buffer room = variant-row file v lent f opened buffer room
 
-    pub read-accepted : (output₁ work₂ : List ℕ) → output₁ ≡ take (f .samples) work₁ ++ drop (f .samples) output
-        → work₂ ≡ replicate (f .samples) 0 ++ drop (f .samples) work₁ → read-left Accepted output₁ work₂ ≡ read-call variants-to-a-block file v output work
-    read-accepted output₁ work₂ a b = rw (a, b, o .front, o .rest) (rw (o .samples-are) at (reads _ (o .is)))
+    pub room-output : (output₁ : List ℕ) → length output₁ ≡ length output → f .samples ≤ length output₁
+    room-output output₁ same = omega (arith, opened .has .room)
 
-pub ruleset read-laws = (read-shut, room-output, room-work, read-accepted)
+    pub room-work : (work₁ : List ℕ) → length work₁ ≡ length work → f .samples ≤ length work₁
+    room-work work₁ same = omega (arith, opened .has .room)
+
+    -- the reply, by what of the variant was read
+    pub read-by : (what : ℕ → List ℕ → Body → List ℕ)
+        → read-from (f .samples) output work (variant-as what K layout v) ≡ read-as what K file v output work
+    read-by what =
+        let n : samples-of K file ≡ f .samples = samples-are file lent f (opened .has) ∙ sym (open-samples file lent f (opened .has)) in
+        ap (λ (N : ℕ). read-from N output work (variant-as what K layout v)) (sym n) ∙ opened-as what _ (open-at-is file v lent f opened)
+
+-- ---- categories
+
+module _ (file : List ℕ) (v : FileVariant) (output work : List ℕ) (lent : ℕ) (both : lent ≡ min (length output) (length work))
+    (r : HeaderReply) (e : OpeningAt file v lent r) where
+  pub read-shut : (why : Refusal) → r ≡ header.Refused why → read-left (Refused why) output work ≡ read-call K file v output work
+  unfolding read-call
+  read-shut why q = shut-as file v output work lent both r e body-categories why q
+
+  -- 12 to 18 and 23 to 25, or accepted
+  pub read-given : (f : Fields) → r ≡ header.Accepted f → (got : Reply) (output₁ work₁ : List ℕ)
+      → VariantGiven file file f v output work got output₁ work₁ → read-left got output₁ work₁ ≡ read-call K file v output work
+  unfolding read-call
+  read-given f q got output₁ work₁ d =
+      go (read-variant K l v) told ∙ read-by file v output work lent both r e f q body-categories
+    where
+      o : OpenAt file v lent f
+      o = opened file v output work lent both r e f q
+
+      l : Layout
+      l = o .has .layout
+
+      told : Given (f .samples) output got output₁ (read-variant K l v)
+      told =
+          subst (λ (z : Layout). Given (f .samples) output got output₁ (read-variant K z v)) (one-layout (o .has .stored) (d .has .has))
+          (given-as d (o .has .bytes))
+
+      go : (m : Out (List ℕ)) → Given (f .samples) output got output₁ m → read-left got output₁ work₁ ≡ read-from (f .samples) output work m
+      go (ok row left) t = rw (t .0, t .1, d .cleared) refl
+      go (refused why) t = rw (t .0, t .1, d .cleared, t .2) refl
+
+pub ruleset room-laws = (has-variant-row, room-output, room-work)
+
+pub ruleset read-laws = (read-shut, room-laws, read-given)

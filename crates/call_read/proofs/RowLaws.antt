@@ -19,10 +19,10 @@ use Rattle.read_file.specs.Rows.{HasVariantRow, VariantRead}
 use Rattle.read_file.proofs.Replies.{RowRead, Clears, read-accepted, read-refused}
 
 module _ (file : List ℕ) (v : FileVariant) (lent : ℕ) (f : Fields) (o : OpenAt file v lent f) where
-  pub variant-row : (work : List ℕ) → lent ≤ length work → HasVariantRow file file f v work
+  pub variant-row : (work : List ℕ) → f .samples ≤ length work → HasVariantRow file file f v work
   variant-row work room = record {
     has = record { has = record { layout = o .has .layout; stored = o .has .stored; fields-are = o .has .fields-are }; below = o .below };
-    room = omega (arith, o .has .room);
+    room = room;
   }
 
   -- what was read is read of the layout that was opened

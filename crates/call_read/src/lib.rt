@@ -1,13 +1,9 @@
 // The calls that read: the whole-file check, a read of categories or of phases, a lookup, the view of a record. Each opens the file before it looks at a
 // record.
 ghost use mathlib.Core.Path.{_≡_};
-ghost use Prim.Native.Nat.{_≤_};
-ghost use lib.ListN.{length};
 ghost use Rattle.format.specs.Limits.{variants-to-a-block};
 ghost use Rattle.format.specs.Reply.{check-left, check-call, read-left, read-call, phases-call, lookup-left, lookup-call, view-left, part-of-file, view-call};
-ghost use Rattle.call_read.specs.OpenRow.{OpeningRow};
 use base_rows::clear;
-use base_rows::copy;
 use call_open::call_refusal;
 use call_open::open;
 use call_open::open_at;
@@ -19,6 +15,7 @@ use format::MOST_SAMPLES;
 use format::Reply;
 use head_places::place_of;
 use read_file::check_records;
+use read_file::read_output;
 use read_file::read_row;
 
 // 01: "the whole-file check, which goes in variant order". The work area needs a byte for each sample.
@@ -38,39 +35,16 @@ pub fn check(file: &[u8], work: &mut [u8]) -> HeaderReply
     }
 }
 
-// The opening of a call that reads one row: it then stands in the work area's first N bytes.
-fn open_row(file: &[u8], variant: FileVariant, lent: usize, work: &mut [u8]) -> HeaderReply
-    requires { ⌜ lent ≤ length (now work) ⌝ }
-    ensures { λ r. ⌜ OpeningRow (now (file .entry)) variant lent (now (work .entry)) (now (work .exit)) r ⌝ }
-{
-    let opened = open_at(file, variant, lent);
-    match opened {
-        HeaderReply::Refused(why) => HeaderReply::Refused(why),
-        HeaderReply::Accepted(f) => {
-            let got = read_row(file, file, f, variant, work);
-            match got {
-                Reply::Refused(why) => HeaderReply::Refused(why),
-                Reply::Accepted => HeaderReply::Accepted(f),
-            }
-        }
-    }
-}
-
-// 01: "A read changes the output's first N bytes and no others." It reads in the work area, so that a refusal finds the output untouched.
+// 01: "A read changes the output's first N bytes and no others." 02, Ask 3: "Every reply and buffer ends as before", the work area too.
 pub fn read(file: &[u8], variant: FileVariant, output: &mut [u8], work: &mut [u8]) -> Reply
     ensures { λ r. ⌜ read-left r (now (output .exit)) (now (work .exit))
         ≡ read-call variants-to-a-block (now (file .entry)) variant (now (output .entry)) (now (work .entry)) ⌝ }
 {
     let lent = shorter(output.len(), work.len());
-    let opened = open_row(file, variant, lent, work);
+    let opened = open_at(file, variant, lent);
     match opened {
         HeaderReply::Refused(why) => Reply::Refused(why),
-        HeaderReply::Accepted(f) => {
-            let n = f.samples;
-            copy(work, n, output);
-            clear(work, n);
-            Reply::Accepted
-        }
+        HeaderReply::Accepted(f) => read_output(file, file, f, variant, output, work),
     }
 }
 

@@ -10,21 +10,23 @@ use native.Mathlib.Omega.{arith}
 use Rattle.format.specs.declared.Refusal.{Refusal}
 use Rattle.format.specs.declared.Reply.{Reply}
 use Rattle.format.specs.declared.Reply.the-variants.{Accepted, Refused}
-use Rattle.format.specs.Base.{pick, Out, ok, refused, refusal, naming}
-use Rattle.format.specs.Body.{type-leans, Body, read-body}
+use Rattle.format.specs.Base.{pick, Out, ok, refused, refusal, naming, map-out}
+use Rattle.format.specs.Body.{type-leans, Body, read-body, body-categories, Reading, body-reading}
 use Rattle.format.specs.Reply.{named-reply}
 use Rattle.format.proofs.Rules.{Holds}
-use Rattle.head_blocks.proofs.Answers.{holds}
+use Rattle.format.proofs.RowLaws.{reading-anchor-unused, read-alike}
+use Rattle.head_blocks.proofs.Answers.{holds, fails}
 use Rattle.head_places.specs.declared.Place.{Place}
 use Rattle.read_record.specs.Recorded.{record-left, record-replied, recorded, phased-left, phased-replied, phased-recorded}
+use Rattle.read_check.specs.Straight.{own-as, straight-replied, straight, straight-phased-replied, straight-phased}
 use Rattle.call_rows.specs.declared.Rows.{Rows}
 use Rattle.call_rows.specs.declared.RowStep.{RowStep}
 use Rattle.call_rows.specs.declared.NextRecord.{NextRecord}
 use Rattle.call_rows.specs.declared.NextRecord.the-variants as next-as
-use Rattle.call_rows.specs.Calls.{next-record, found, past, answered, leaning-checked, RowReady}
+use Rattle.call_rows.specs.Calls.{next-record, found, past, answered, kept, row-kept, leaning-checked, RowReady}
 use Rattle.call_rows.specs.Phased.{with-phases, phased-row-left, phases-filled, body-at, phases-at, phased-over-nothing, phased-over-anchor}
 use Rattle.call_rows.specs.Phased.{phased-stepped, next-phased-row-in, next-phased-row-call}
-use Rattle.call_rows.proofs.StepLaws.{alone-refused, alone-accepted, same-row, checked-as, checked, leaning-refused, leaning-accepted}
+use Rattle.call_rows.proofs.StepLaws.{alone-left, same-row, checked-as, checked, leaning-refused, leaning-accepted}
 use Rattle.call_rows.proofs.StepLaws.{cut-end, cut-holds, buffer-room}
 use Rattle.call_rows.proofs.RecordLaws.{all-known}
 
@@ -52,29 +54,55 @@ module _ (n type : ℕ) (l : List ℕ) (start : ℕ) (row phases : List ℕ) (go
       go (ok body left) e = cc
       go (refused why) e = cc
 
--- ---- one that leans on none
+-- ---- one that leans on none, read straight
 
-module _ (rows : Rows) (held : List ℕ) (p : Place) (output phases work : List ℕ) (next : Rows) (read got : Reply) (work₁ phases₁ : List ℕ)
-    (told : phased-left read work₁ phases₁ ≡ phased-recorded (rows .fields .samples) (p .record_type) (take (p .end) held) (p .start) work phases)
-    (v : got ≡ named-reply (rows .variant) read) where
+module _ (rows : Rows) (held : List ℕ) (p : Place) (output phases work : List ℕ) (stands : type-leans (p .record_type) ≡ false)
+    (room : rows .fields .samples ≤ length output) (read got : Reply) (output₁ phases₁ : List ℕ) (same : length output₁ ≡ length output)
+    (told : phased-left read output₁ phases₁ ≡ straight-phased (rows .fields .samples) (p .record_type) (take (p .end) held) (p .start) output phases)
+    (v : got ≡ named-reply (rows .variant) read) (step : RowStep) (work₁ : List ℕ) (k : kept step work₁ ≡ row-kept rows (p .end) got output₁ work) where
   abbrev N : ℕ
   N = rows .fields .samples
 
-  row-told : record-left read work₁ ≡ recorded N (p .record_type) (take (p .end) held) (p .start) work
-  row-told = as-recorded N (p .record_type) (take (p .end) held) (p .start) work phases read work₁ phases₁ told
+  abbrev cut : List ℕ
+  cut = take (p .end) held
+
+  abbrev own : Out Reading
+  own = own-as body-reading N (p .record_type) cut (p .start)
+
+  was-told : phased-left read output₁ phases₁ ≡ straight-phased-replied N output phases own
+  unfolding straight-phased
+  was-told = told
+
+  -- its categories are read as without them
+  row-told : record-left read output₁ ≡ straight N (p .record_type) cut (p .start) output
+  unfolding straight
+  row-told = go (read-body (length cut) N [] (p .record_type) (drop (p .start) cut)) was-told
+    where
+      go : (m : Out Body) → phased-left read output₁ phases₁ ≡ straight-phased-replied N output phases (map-out (body-reading N []) m)
+          → record-left read output₁ ≡ straight-replied N output (map-out (body-categories N []) m)
+      go (ok body left) e = cc
+      go (refused why) e = cc
+
+  abbrev filled : Out Reading → List ℕ
+  filled (ok reading left) = reading .phases ++ drop N phases
+  filled (refused why) = phases
 
   phases-told : phases₁ ≡ phases-at rows held p phases work
-  phases-told = as-filled N (p .record_type) (take (p .end) held) (p .start) work phases read work₁ phases₁ told
+  phases-told =
+      go own was-told
+      ∙ sym (as-filled-by (body-at rows held p work)
+      ∙ ap filled (read-alike body-reading N (reading-anchor-unused N) (length cut) (take N work) [] (p .record_type) (drop (p .start) cut) stands))
+    where
+      as-filled-by : (m : Out Body) → phases-filled N (take N work) phases m ≡ filled (map-out (body-reading N (take N work)) m)
+      as-filled-by (ok body left) = refl
+      as-filled-by (refused why) = refl
 
-  pub phased-alone-refused : (why : Refusal) → next ≡ past rows (p .end) why → got ≡ Refused why
-      → phased-row-left (answered next (Refused why)) output phases₁ work₁ ≡ phased-over-nothing rows held p output phases work
-  phased-alone-refused why n q = ap₂ with-phases (alone-refused rows held p output work next read got work₁ row-told v why n q) phases-told
+      go : (m : Out Reading) → phased-left read output₁ phases₁ ≡ straight-phased-replied N output phases m → phases₁ ≡ filled m
+      go (ok reading left) e = cc
+      go (refused why) e = cc
 
-  pub phased-alone-accepted : (why : Refusal) → why ≡ refusal 0 0 → next ≡ past rows (p .end) why → (output₁ : List ℕ) → got ≡ Accepted
-      → output₁ ≡ take (rows .fields .samples) work₁ ++ drop (rows .fields .samples) output
-      → phased-row-left (answered next Accepted) output₁ phases₁ work₁ ≡ phased-over-nothing rows held p output phases work
-  phased-alone-accepted why z n output₁ q e =
-      ap₂ with-phases (alone-accepted rows held p output work next read got work₁ row-told v why z n output₁ q e) phases-told
+  pub phased-alone-left : phased-row-left step output₁ phases₁ work₁ ≡ phased-over-nothing rows held p output phases work
+  phased-alone-left = ap₂ with-phases (alone-left rows held p output work stands room read got output₁ same row-told v step work₁ k) phases-told
 
 -- ---- one that leans
 
@@ -126,9 +154,9 @@ module _ (rows : Rows) (held : List ℕ) (p : Place) (output phases work : List 
       go true m e g = g
       go false m e g = absurd (let y : _≡_ {A = ℕ} 0 1 = cc in omega arith)
 
+pub ruleset phased-alone-laws = (phased-alone-left, cut-end, cut-holds, buffer-room)
+
 pub ruleset phased-step-laws = (
-  phased-alone-refused,
-  phased-alone-accepted,
   phased-leaning-refused,
   phased-leaning-accepted,
   cut-end,
@@ -178,7 +206,7 @@ module _ (rows : Rows) (index held output phases work : List ℕ) (lent : ℕ) (
       unfolding next-phased-row-in
       phased-stepped-alone s d = rw (← at-place, ← k, s) d
 
-pub ruleset next-phased-laws = (phased-ready, output-there, phases-there, holds, phased-refused-there, phased-stepped-leaning, phased-stepped-alone)
+pub ruleset next-phased-laws = (phased-ready, output-there, phases-there, holds, fails, phased-refused-there, phased-stepped-leaning, phased-stepped-alone)
 
 -- ---- of a file in one piece
 

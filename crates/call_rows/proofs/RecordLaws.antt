@@ -22,7 +22,7 @@ use Rattle.format.specs.Reply.{plain-answer}
 use Rattle.format.proofs.Rules.{Holds, by-bind, never-both, both, by-need-of}
 use Rattle.head_index.specs.VariantsAt.{type-at}
 use Rattle.head_blocks.specs.Parts.{fixed}
-use Rattle.head_blocks.proofs.Answers.{holds}
+use Rattle.head_blocks.proofs.Answers.{holds, fails}
 use Rattle.head_records.specs.Extent.{record-type, record-size}
 use Rattle.head_places.specs.declared.Place.{Place}
 use Rattle.format.proofs.AnchorLaws.{allowed}
@@ -199,7 +199,7 @@ module _ (rows : Rows) (index held output work : List ℕ) where
         unfolding next-row-in
         stepped-alone s d = rw (← at-place, ← k, s) d
 
-pub ruleset next-laws = (ready, output-holds, holds, refused-there, stepped-leaning, stepped-alone)
+pub ruleset next-laws = (ready, output-holds, holds, fails, refused-there, stepped-leaning, stepped-alone)
 
 -- ---- of a file in one piece
 

@@ -4,8 +4,8 @@ use mathlib.Core.Path.{_≡_, refl, sym, ap, _∙_}
 use Prim.Native.Nat.{ℕ, _+_, _≤_}
 use native.Mathlib.Numerals.{add-one}
 use mathlib.Core.Bool.{Bool, true, false}
-use mathlib.Core.List.{List, _++_}
-use lib.ListN.{length, take, drop, length-take}
+use mathlib.Core.List.{List, [], _++_}
+use lib.ListN.{length, take, drop, replicate, length-take, length-append, length-drop}
 use lib.Seq.{take-at, length-take-le}
 use native.Mathlib.Omega.{arith}
 use lib.Dec.{eqb}
@@ -13,33 +13,88 @@ use borrow.Author.Tests.{eq-eqb, ne-eqb}
 use Rattle.format.specs.declared.Refusal.{Refusal}
 use Rattle.format.specs.declared.Reply.{Reply}
 use Rattle.format.specs.declared.Reply.the-variants.{Accepted, Refused}
-use Rattle.format.specs.Base.{pick, Out, ok, refused, refusal, naming}
-use Rattle.format.specs.Body.{type-leans, type-phased, Body, read-body}
+use Rattle.format.specs.Base.{pick, Out, ok, refused, refusal, named, naming, map-out}
+use Rattle.format.specs.Body.{type-leans, type-phased, Body, read-body, body-categories}
 use Rattle.format.specs.Variant.{file-variant}
-use Rattle.format.specs.Reply.{named-reply}
+use Rattle.format.specs.Reply.{named-reply, emptied}
+use Rattle.format.proofs.RowLaws.{row-anchor-unused, read-alike}
 use Rattle.head_places.specs.declared.Place.{Place}
-use Rattle.read_record.specs.Recorded.{replied, record-left, record-replied, recorded, named-left}
+use Rattle.read_record.specs.Recorded.{replied, RecordLeft, record-left, record-replied, recorded, named-left}
+use Rattle.read_record.proofs.BodyLaws.{reply-of, row-of}
 use Rattle.read_record.proofs.NamedLaws.{replied-named, left-named}
 use Rattle.read_check.specs.Checked.{body-checked}
+use Rattle.read_check.specs.Straight.{own-as, straight-replied, straight}
 use Rattle.call_rows.specs.declared.Rows.{Rows}
+use Rattle.call_rows.specs.declared.RowStep.{RowStep}
+use Rattle.call_rows.specs.Calls.{Kept, kept, row-kept}
 use Rattle.call_rows.specs.Calls.{Left, row-left, past, answered, alone, leaning, read-at, leaning-checked, over-nothing, over-anchor, RowReady}
 
--- ---- a record that leans on none
+-- ---- past a record that leans on none
 
-module _ (rows : Rows) (held : List ℕ) (p : Place) (output work : List ℕ) (next : Rows) (read got : Reply) (work₁ : List ℕ)
-    (d : record-left read work₁ ≡ recorded (rows .fields .samples) (p .record_type) (take (p .end) held) (p .start) work)
-    (v : got ≡ named-reply (rows .variant) read) where
-  told : record-left got work₁ ≡ read-at rows held p work
-  told = rw v (ap (named-left (rows .variant)) d)
+module _ (rows : Rows) (end : ℕ) (got : Reply) (output work : List ℕ) (next : Rows) (why : Refusal) (n : next ≡ past rows end why) (work₁ : List ℕ) where
+  pub kept-refused : got ≡ Refused why → work₁ ≡ replicate (rows .fields .samples) 0 ++ drop (rows .fields .samples) work
+      → kept (answered next (Refused why)) work₁ ≡ row-kept rows end got output work
+  unfolding row-kept
+  kept-refused q w = rw (q, n, w) refl
 
-  pub alone-refused : (why : Refusal) → next ≡ past rows (p .end) why → got ≡ Refused why
-      → row-left (answered next (Refused why)) output work₁ ≡ over-nothing rows held p output work
-  alone-refused why n q = rw n (ap (alone rows (p .end) output) (rw q at told))
+  pub kept-accepted : why ≡ refusal 0 0 → got ≡ Accepted → work₁ ≡ take (rows .fields .samples) output ++ drop (rows .fields .samples) work
+      → kept (answered next Accepted) work₁ ≡ row-kept rows end got output work
+  unfolding row-kept
+  kept-accepted z q w = rw (q, n, z, w) refl
 
-  pub alone-accepted : (why : Refusal) → why ≡ refusal 0 0 → next ≡ past rows (p .end) why → (output₁ : List ℕ) → got ≡ Accepted
-      → output₁ ≡ take (rows .fields .samples) work₁ ++ drop (rows .fields .samples) output
-      → row-left (answered next Accepted) output₁ work₁ ≡ over-nothing rows held p output work
-  alone-accepted why z n output₁ q e = rw (n, z, e) (ap (alone rows (p .end) output) (rw q at told))
+pub ruleset kept-laws = (kept-refused, kept-accepted)
+
+-- ---- a record that leans on none, read straight in the output
+
+abbrev left-of : List ℕ → Kept → Left
+left-of output (kept step work) = row-left step output work
+
+module _ (rows : Rows) (held : List ℕ) (p : Place) (output work : List ℕ) (stands : type-leans (p .record_type) ≡ false)
+    (room : rows .fields .samples ≤ length output) (read got : Reply) (output₁ : List ℕ) (same : length output₁ ≡ length output)
+    (d : record-left read output₁ ≡ straight (rows .fields .samples) (p .record_type) (take (p .end) held) (p .start) output)
+    (v : got ≡ named-reply (rows .variant) read) (step : RowStep) (work₁ : List ℕ) (k : kept step work₁ ≡ row-kept rows (p .end) got output₁ work) where
+  abbrev n : ℕ
+  n = rows .fields .samples
+
+  abbrev own : Out (List ℕ)
+  own = own-as body-categories n (p .record_type) (take (p .end) held) (p .start)
+
+  -- a step, by what the record is read as
+  abbrev alone-as : Out (List ℕ) → Left
+  alone-as (ok row left) = alone rows (p .end) output (record-left Accepted (row ++ drop n work))
+  alone-as (refused why) = alone rows (p .end) output (record-left (Refused (named (rows .variant) why)) (emptied n work))
+
+  alone-over : over-nothing rows held p output work ≡ alone-as own
+  unfolding recorded
+  alone-over =
+      go (read-body (length cut) n (take n work) (p .record_type) (drop (p .start) cut))
+      ∙ ap alone-as (read-alike body-categories n (row-anchor-unused n) (length cut) (take n work) [] (p .record_type) (drop (p .start) cut) stands)
+    where
+      cut : List ℕ
+      cut = take (p .end) held
+
+      go : (m : Out Body)
+          → alone rows (p .end) output (named-left (rows .variant) (record-replied n work m)) ≡ alone-as (map-out (body-categories n (take n work)) m)
+      go (ok body left) = refl
+      go (refused why) = refl
+
+  -- its reply and the output, by the same
+  pub alone-left : row-left step output₁ work₁ ≡ over-nothing rows held p output work
+  unfolding straight row-kept
+  alone-left = go own d ∙ sym alone-over
+    where
+      go : (m : Out (List ℕ)) → record-left read output₁ ≡ straight-replied n output m → row-left step output₁ work₁ ≡ alone-as m
+      go (refused why) t =
+          let o : output₁ ≡ output = ap row-of t in
+          let x : got ≡ Refused (named (rows .variant) why) = v ∙ ap (λ (z : RecordLeft). named-reply (rows .variant) (reply-of z)) t in
+          ap (left-of output₁) (k ∙ ap (λ (z : Reply). row-kept rows (p .end) z output₁ work) x) ∙ rw o refl
+      go (ok row left) t =
+          let o : output₁ ≡ row ++ drop n output = ap row-of t in
+          let x : got ≡ Accepted = v ∙ ap (λ (z : RecordLeft). named-reply (rows .variant) (reply-of z)) t in
+          let count : length row ≡ n = omega (arith, ap length o, length-append row (drop n output), length-drop n output) in
+          let own-row : take n output₁ ≡ row = ap (take n) o ∙ take-at row (drop n output) n count in
+          ap (left-of output₁) (k ∙ ap (λ (z : Reply). row-kept rows (p .end) z output₁ work) x)
+          ∙ rw (own-row, take-at row (drop n work) n count, o) refl
 
 -- ---- one that leans: checked over the work area
 
@@ -144,4 +199,6 @@ past-is rows end why = rw add-one
 
 pub ruleset checked-laws = (checked-anchor, checked-body, leans-there, cut-end, cut-holds)
 
-pub ruleset step-laws = (alone-refused, alone-accepted, leaning-refused, leaning-accepted, cut-end, cut-holds, buffer-room)
+pub ruleset alone-laws = (alone-left, cut-end, cut-holds, buffer-room)
+
+pub ruleset step-laws = (leaning-refused, leaning-accepted, cut-end, cut-holds, buffer-room)

@@ -18,7 +18,7 @@ use Rattle.format.specs.Body.{kind-of, type-leans}
 use Rattle.format.specs.Variant.{file-variant, no-variant, next-variant, in-block}
 use Rattle.format.specs.Layout.{fields-of, from-1-to, first-record, Layout, fixed-of, type-allowed}
 use Rattle.format.specs.Header.{type-place}
-use Rattle.format.specs.Reply.{Verdict, verdict, named-reply, plain-answer, holds-row, with-layout}
+use Rattle.format.specs.Reply.{Verdict, verdict, named-reply, plain-answer, emptied, holds-row, with-layout}
 use Rattle.head_blocks.specs.Parts.{fixed}
 use Rattle.head_records.specs.Extent.{record-type, record-size}
 use Rattle.head_places.specs.declared.Place.{Place}
@@ -117,6 +117,16 @@ abbrev pub alone : Rows → ℕ → List ℕ → RecordLeft → Left
 alone rows end output (record-left Accepted work) =
     row-left (answered (past rows end (refusal 0 0)) Accepted) (take (rows .fields .samples) work ++ drop (rows .fields .samples) output) work
 alone rows end output (record-left (Refused why) work) = row-left (answered (past rows end why) (Refused why)) output work
+
+-- its answer by its reply, and the work area: its categories, which the output holds, stay there for those that lean on it; after a refusal the first N bytes
+-- are zero
+pub data Kept : Type 0 where
+  kept : RowStep → List ℕ → Kept
+
+unfoldable pub row-kept : Rows → ℕ → Reply → List ℕ → List ℕ → Kept
+row-kept rows end Accepted output work =
+    kept (answered (past rows end (refusal 0 0)) Accepted) (take (rows .fields .samples) output ++ drop (rows .fields .samples) work)
+row-kept rows end (Refused why) output work = kept (answered (past rows end why) (Refused why)) (emptied (rows .fields .samples) work)
 
 -- one that leans, as the output would be left by reading it there over the anchor's row
 abbrev pub leaning : Rows → ℕ → List ℕ → List ℕ → RecordLeft → Left

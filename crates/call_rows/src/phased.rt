@@ -1,6 +1,6 @@
 // The next variant's phases besides its categories: the steps of `next_row`, with one lent buffer more.
 ghost use mathlib.Core.Path.{_≡_};
-ghost use mathlib.Core.Bool.{true};
+ghost use mathlib.Core.Bool.{true, false};
 ghost use Prim.Native.Nat.{_≤_};
 ghost use lib.ListN.{length};
 ghost use Rattle.format.specs.Body.{type-leans};
@@ -9,20 +9,21 @@ ghost use Rattle.call_rows.specs.Phased.{phased-row-left, phased-over-no
 use crate::NextRecord;
 use crate::RowStep;
 use crate::Rows;
+use crate::keep_row;
 use crate::leaning_checked;
-use crate::next_record;
+use crate::next::next_record;
 use crate::past;
 use base_cursor::Cursor;
 use base_rows::copy;
 use call_open::shorter;
 use format::Reply;
 use format::named_reply;
-use format::refusal_at;
 use head_places::Place;
 use head_types::type_leans;
+use read_check::read_straight_phased;
 use read_record::read_phased;
 
-// A record that leans on none is read in the work area, where its categories stay for those that lean on it.
+// 02, Ask 3: a record that leans on none is checked, and then read straight in the output, its phases in theirs.
 fn phased_alone(
     rows: Rows,
     held: &[u8],
@@ -32,33 +33,27 @@ fn phased_alone(
     work: &mut [u8],
 ) -> RowStep
     requires { ⌜ RowReady rows (now held) p (now work) × (rows .fields .samples ≤ length (now output)) × (rows .fields .samples ≤ length (now phases)) ⌝ }
+    requires { ⌜ type-leans (p .record_type) ≡ false ⌝ }
     ensures { λ r. ⌜ phased-row-left r (now (output .exit)) (now (phases .exit)) (now (work .exit))
         ≡ phased-over-nothing rows (now (held .entry)) p (now (output .entry)) (now (phases .entry)) (now (work .entry)) ⌝ }
 {
     let end = p.end;
     let n = rows.fields.samples;
-    let read = read_phased(
+    let read = read_straight_phased(
         &held[..end],
         Cursor { at: p.start },
         n,
         p.record_type,
-        work,
+        output,
         phases,
     );
-    let got = named_reply(rows.variant, read);
-    match got {
-        Reply::Refused(why) => RowStep {
-            rows: past(rows, end, why),
-            reply: Reply::Refused(why),
-        },
-        Reply::Accepted => {
-            copy(work, n, output);
-            RowStep {
-                rows: past(rows, end, refusal_at(0, 0)),
-                reply: Reply::Accepted,
-            }
-        }
-    }
+    keep_row(
+        rows,
+        end,
+        named_reply(rows.variant, read),
+        &output[..],
+        work,
+    )
 }
 
 // One that leans is checked over the work area, which stays, and then read in the output over a copy of it: a refusal finds output and phases untouched.

@@ -76,7 +76,7 @@ fn read_standing(file: &[u8], p: Place, n: usize, row: &mut [u8]) -> Main
 {
     let end = p.end;
     let here = Cursor { at: p.start };
-    let got = read_track(&file[..end], here, n, kind_of(p.record_type), row);
+    let got = read_track(&file[..end], here, n, kind_of(p.record_type), false, row);
     let count = heterozygous_count(&row[..], n);
     match got {
         ListStep::Refused(_) => Main { end: here, count },

@@ -5,14 +5,14 @@ use Prim.Native.Nat.{ℕ, zero, suc, _<_}
 use mathlib.Core.Bool.{Bool, true, false}
 use mathlib.Core.List.{List, [], _∷_, map}
 use lib.ListN.{length, set, replicate, length-map, length-set, length-replicate}
-use Rattle.format.specs.Base.{Below, Out, ok, refused, bind}
+use Rattle.format.specs.Base.{Below, Out, ok, refused, bind, map-out}
 use Rattle.format.specs.Packed.{one, two, read-packed}
 use Rattle.format.specs.Difflist.{Entry, Rule, Rising, number-width, read-list}
 use Rattle.format.specs.PairCode.{PairCode, category-of}
 use Rattle.format.specs.Track.{Kind, array, paired, against-anchor, against-category, no-kind, kind, leans-kind, Track, plain, one-bit, leaning, sparse}
 use Rattle.format.specs.Track.{off-pair, off-category, off-anchor, rule, Fits, read-kind, apply, track-categories, track-leans}
 use Rattle.format.specs.Track.{read-pair-code, read-listed}
-use Rattle.format.specs.Phase.{heterozygous-count, PhasesObey, read-phases, phases-over}
+use Rattle.format.specs.Phase.{heterozygous-count, Phases, PhasesObey, read-phases, phases-over}
 use Rattle.format.specs.Body.{Body, BodyFits, ended, read-after, read-body, body-categories, body-phases, body-reading}
 use Rattle.format.specs.Body.{type-leans, type-phased, kind-of, body-leans}
 use Rattle.format.proofs.Rules.{Holds, never-both, by-bind, by-map}
@@ -101,6 +101,9 @@ Any a left = Unit {0}
 abbrev Stands : Track → List ℕ → Type 0
 Stands t left = track-leans t ≡ false
 
+abbrev StandsBody : Body → List ℕ → Type 0
+StandsBody body left = body-leans body ≡ false
+
 anything : {A : Type 0} (m : Out A) → Holds Any m
 anything (ok a left) = tt
 anything (refused why) = tt
@@ -143,6 +146,20 @@ pub row-anchor-unused : (N : ℕ) (anchor other : List ℕ) (body : Body) → bo
     → body-categories N anchor body ≡ body-categories N other body
 row-anchor-unused N anchor other body h = categories-anchor-unused N anchor other (body .main) h
 
+-- what is read of a type that does not lean is a body that does not
+body-stands : (end N : ℕ) (anchor : List ℕ) (type : ℕ) (bs : List ℕ) → type-leans type ≡ false
+    → Holds StandsBody (read-body end N anchor type bs)
+unfolding read-body
+body-stands end N anchor type bs h =
+    by-bind Stands StandsBody (read-kind end N anchor (kind (kind-of type)) bs) _ (kind-stands end N anchor (kind (kind-of type)) bs h) (λ t left w.
+    let phases : Out Phases = read-phases (type-phased type) end (heterozygous-count (track-categories N anchor t)) left in
+    by-bind Any StandsBody phases _ (anything phases) (λ p left₁ u. whole t p left₁ w))
+  where
+    whole : (t : Track) (p : Phases) (left : List ℕ) → track-leans t ≡ false
+        → Holds StandsBody (ended end (record { main = t; phases = p }) left)
+    whole t p [] w = w
+    whole t p (b ∷ left) w = tt
+
 -- and it fits alike
 pub fits-anchor-unused : (N : ℕ) (anchor other : List ℕ) (t : Track) → track-leans t ≡ false → Fits N anchor t → Fits N other t
 fits-anchor-unused N anchor other (plain categories) h f = f
@@ -166,3 +183,16 @@ pub reading-anchor-unused : (N : ℕ) (anchor other : List ℕ) (body : Body) �
     → body-reading N anchor body ≡ body-reading N other body
 reading-anchor-unused N anchor other body h =
     ap (λ (row : List ℕ). record { categories = row; phases = phases-over row (body .phases) }) (categories-anchor-unused N anchor other (body .main) h)
+
+-- so what is read of a type that does not lean, where it asks for an anchor only of a body that leans
+pub read-alike : {A : Type 0} (what : ℕ → List ℕ → Body → A) (N : ℕ)
+    → ((anchor other : List ℕ) (body : Body) → body-leans body ≡ false → what N anchor body ≡ what N other body)
+    → (end : ℕ) (anchor other : List ℕ) (type : ℕ) (bs : List ℕ) → type-leans type ≡ false
+    → map-out (what N anchor) (read-body end N anchor type bs) ≡ map-out (what N other) (read-body end N other type bs)
+read-alike {A} what N unused end anchor other type bs h =
+    go (read-body end N anchor type bs) (body-stands end N anchor type bs h)
+    ∙ ap (map-out (what N other)) (anchor-unused end N anchor other type bs h)
+  where
+    go : (m : Out Body) → Holds StandsBody m → map-out (what N anchor) m ≡ map-out (what N other) m
+    go (ok body left) w = ap (λ (a : A). ok a left) (unused anchor other body w)
+    go (refused why) w = refl

@@ -2,7 +2,7 @@
 -- Assumes nothing.
 use mathlib.Core.Path.{_≡_, refl, sym, ap, _∙_}
 use Prim.Native.Nat.{ℕ, zero, suc, _-_, _≤_, _<_}
-use mathlib.Core.Bool.{Bool, true, false, not, _||_}
+use mathlib.Core.Bool.{Bool, true, false}
 use mathlib.Core.List.{List, [], _∷_, map}
 use lib.ListN.{length, take, drop, replicate}
 use lib.Dec.{eqb}
@@ -25,7 +25,7 @@ use Rattle.base_cursor.specs.declared.ByteStep.the-variants.{Byte, Refused as N
 use Rattle.read_packed.specs.Unpacked.{of-pair}
 use Rattle.read_list.specs.declared.ListRule.the-variants.{OffPair, OffRow}
 use Rattle.read_record.specs.Rows.{off-both}
-use Rattle.read_record.proofs.RuleLaws.{list-same}
+use Rattle.read_record.proofs.RuleLaws.{list-same, off-one}
 use Rattle.read_record.proofs.CodeLaws.{code-inside, under-code, UnderCode, code-missing, code-unknown, code-known}
 use Rattle.read_record.proofs.BodyLaws.{leaning-kind, sparse-kind}
 use Rattle.read_calls.specs.Bases.{base-row}
@@ -76,14 +76,6 @@ module _ (l : List ℕ) (start n : ℕ) (got : ByteStep) (told : got ≡ byte-at
 pub ruleset pair-laws = (code-inside, no-code, unknown-code, known-code)
 
 -- ---- kinds by number
-
--- the samples outside a category: off both of two that are the same
-pub off-one : (category sample value : ℕ) → off-both category category sample value ≡ off-category category sample value
-off-one category sample value = either (eqb value category)
-  where
-    either : (b : Bool) → not (b || b) ≡ not b
-    either true = refl
-    either false = refl
 
 -- a kind that leans has a row
 pub leaner-row : (n number : ℕ) (row : List ℕ) → (leans number ≡ true → n ≤ length row) → (number ≡ 0 → ⊥) → (number ≡ 1 → ⊥) → number < 4 → n ≤ length row

@@ -2,3 +2,4 @@ pub mod TrackLaws
 pub mod PhasedLaws
 pub mod BodyLaws
 pub mod NextLaws
+pub mod StraightLaws

@@ -29,12 +29,12 @@ use Rattle.read_list.specs.declared.ListRule.the-variants.{OffPair, OffRow}
 use Rattle.read_list.specs.declared.ListStep.{ListStep}
 use Rattle.read_list.specs.declared.ListStep.the-variants.{Listed, Refused}
 use Rattle.read_record.specs.Rows.{off-both}
-use Rattle.read_record.proofs.RuleLaws.{list-same}
+use Rattle.read_record.proofs.RuleLaws.{list-same, off-one}
 use Rattle.read_record.proofs.CodeLaws.{code-inside, UnderCode, code-missing, code-unknown, code-known}
 use Rattle.read_record.proofs.BodyLaws.{leaning-kind, sparse-kind}
 use Rattle.read_record.proofs.EndLaws.{stepped-map}
 use Rattle.read_packed.proofs.CheckLaws.{not-packed, accepted, next-inside, next-place}
-use Rattle.read_calls.proofs.CountedTrackLaws.{off-one, leaner-row}
+use Rattle.read_calls.proofs.CountedTrackLaws.{leaner-row}
 use Rattle.read_check.specs.Checked.{track-checked, bits-checked}
 
 -- ---- kind 0

@@ -18,18 +18,22 @@ use read_packed::PackedStep;
 use read_packed::Width;
 use read_packed::check_array;
 use read_record::check_phased_end;
+use read_record::put_after;
 use read_record::read_body;
+use read_record::read_track;
 use read_record::whole_record;
 ghost use mathlib.Core.Path.{_≡_};
-ghost use mathlib.Core.Bool.{true};
+ghost use mathlib.Core.Bool.{true, false};
 ghost use mathlib.Core.List.{[]};
 ghost use Prim.Native.Nat.{_≤_, _<_};
 ghost use lib.ListN.{length};
-ghost use Rattle.format.specs.Body.{kind-of};
+ghost use Rattle.format.specs.Body.{kind-of, type-leans};
 ghost use Rattle.format.specs.Limits.{most-samples};
 ghost use Rattle.format.specs.Track.{array, paired, kind, leans};
-ghost use Rattle.read_record.specs.Recorded.{record-left};
+ghost use Rattle.read_record.specs.Recorded.{record-left, phased-left};
 ghost use Rattle.read_check.specs.Checked.{track-checked, bits-checked, phased-checked, body-checked};
+ghost use Rattle.read_list.specs.Entries.{list-left};
+ghost use Rattle.read_check.specs.Straight.{straight-tracks, straight, straight-phased};
 ghost use Rattle.read_check.specs.Next.{row-made, next-checked};
 
 // "Kind 0: the packed array."
@@ -120,6 +124,57 @@ pub fn check_body(s: &[u8], c: Cursor, n: usize, record_type: u8, row: &[u8]) ->
         return check_phased(s, c, n, number, row);
     }
     whole_record(check_track(s, c, n, number, row), s.len())
+}
+
+// 02, Ask 3: "Check such a record first, then unpack straight to the output." Of a record that leans on none: what the output holds is not looked at by the check,
+// and a refusal leaves it as it was. Once the record is accepted its main track cannot be refused: the cursor past it.
+fn straight_tracks(s: &[u8], c: Cursor, n: usize, record_type: u8, output: &mut [u8]) -> ListStep
+    requires { ⌜ (c .at ≤ length (now s)) × (n ≤ most-samples) × (n ≤ length (now output)) ⌝ }
+    requires { ⌜ (kind-of record_type ≡ 5 → ⊥) ⌝ }
+    ensures { λ r. ⌜ list-left r (now (output .exit)) ≡ straight-tracks n record_type (now (s .entry)) (c .at) (now (output .entry)) ⌝ }
+{
+    let got = check_body(s, c, n, record_type, &output[..]);
+    match got {
+        Reply::Refused(why) => ListStep::Refused(why),
+        Reply::Accepted => read_track(s, c, n, kind_of(record_type), true, output),
+    }
+}
+
+// Its categories, and nothing after its main track is looked at again.
+pub fn read_straight(s: &[u8], c: Cursor, n: usize, record_type: u8, output: &mut [u8]) -> Reply
+    requires { ⌜ (c .at ≤ length (now s)) × (n ≤ most-samples) × (n ≤ length (now output)) ⌝ }
+    requires { ⌜ (kind-of record_type ≡ 5 → ⊥) × (type-leans record_type ≡ false) ⌝ }
+    ensures { λ r. ⌜ record-left r (now (output .exit)) ≡ straight n record_type (now (s .entry)) (c .at) (now (output .entry)) ⌝ }
+{
+    let got = straight_tracks(s, c, n, record_type, output);
+    match got {
+        ListStep::Refused(why) => Reply::Refused(why),
+        ListStep::Listed(_) => Reply::Accepted,
+    }
+}
+
+// Likewise with its phases in theirs: a refusal leaves both as they were.
+pub fn read_straight_phased(
+    s: &[u8],
+    c: Cursor,
+    n: usize,
+    record_type: u8,
+    output: &mut [u8],
+    phases: &mut [u8],
+) -> Reply
+    requires { ⌜ (c .at ≤ length (now s)) × (n ≤ most-samples) × (n ≤ length (now output)) × (n ≤ length (now phases)) ⌝ }
+    requires { ⌜ (kind-of record_type ≡ 5 → ⊥) × (type-leans record_type ≡ false) ⌝ }
+    ensures { λ r. ⌜ phased-left r (now (output .exit)) (now (phases .exit))
+        ≡ straight-phased n record_type (now (s .entry)) (c .at) (now (output .entry)) (now (phases .entry)) ⌝ }
+{
+    let got = straight_tracks(s, c, n, record_type, output);
+    match got {
+        ListStep::Refused(why) => Reply::Refused(why),
+        ListStep::Listed(next) => {
+            put_after(s, next, n, record_type, &output[..], phases);
+            Reply::Accepted
+        }
+    }
 }
 
 // Whether a record's own row is made, in a check of all: one that leans on none is read into the row if the record after it leans.

@@ -144,7 +144,7 @@ anchor-has a = record { has = a .has; below = a .below }
 module _ {index held : List ℕ} {f : Fields} {v : FileVariant} {row : List ℕ} (h : HasVariantRow index held f v row) {p : Place} (g : Located index held f v p)
     {t : Bool} (k : t ≡ type-leans (p .record_type)) where
   -- it leans, or not
-  leans-as : variant-leans (h .has .has .layout) v ≡ t
+  pub leans-as : variant-leans (h .has .has .layout) v ≡ t
   leans-as = sym (k ∙ ap (λ (z : Place). type-leans (z .record_type)) (located (h .has .has .stored) g))
 
   pub leans-there : t ≡ true → HasLeaner index held f v

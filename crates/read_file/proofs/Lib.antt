@@ -4,3 +4,4 @@ pub mod Cut
 pub mod WalkLaws
 pub mod LentLaws
 pub mod OneLaws
+pub mod GivenLaws

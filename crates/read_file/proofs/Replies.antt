@@ -27,7 +27,8 @@ use Rattle.head_places.specs.Located.{HasVariant}
 use Rattle.head_places.proofs.AcceptedLaws.{below-in}
 use Rattle.read_record.specs.Recorded.{replied, record-left}
 use Rattle.read_record.proofs.BodyLaws.{reply-of, row-of}
-use Rattle.read_file.specs.Rows.{row-replied, RecordsChecked, VariantRead}
+use Rattle.read_check.specs.Straight.{straight-replied}
+use Rattle.read_file.specs.Rows.{row-replied, RecordsChecked, VariantRead, VariantGiven}
 
 -- accepted, with what was read
 pub record WasRead (A : Type 0) (m : Out A) : Type 0 where
@@ -129,3 +130,23 @@ module _ {index held : List ℕ} {f : Fields} {v : FileVariant} {row : List ℕ}
   refused-row why q =
       let e : read-variant variants-to-a-block l v ≡ refused why = row-refused (l .samples) row later r (read-variant variants-to-a-block l v) (c .is) why q in
       rw samples (ap row-of (c .is ∙ ap (row-replied (l .samples) row) e))
+
+-- of one variant that was given to an output: what it read as, and its reply and the output by that
+abbrev pub Given : ℕ → List ℕ → Reply → List ℕ → Out (List ℕ) → Type 0
+Given N output r out (ok row left) = (r ≡ Accepted) × (out ≡ row ++ drop N output)
+Given N output r out (refused why) = (r ≡ Refused why) × (out ≡ output) × (keeps-work (why .number) ≡ false)
+
+pub given-as : {index held : List ℕ} {f : Fields} {v : FileVariant} {output row : List ℕ} {r : Reply} {out later : List ℕ}
+    (c : VariantGiven index held f v output row r out later) → Bytes held
+    → Given (f .samples) output r out (read-variant variants-to-a-block (c .has .has .layout) v)
+given-as {f = f} {v} {output} {row} {r} {out} c y =
+    go (read-variant variants-to-a-block l v)
+    (c .is ∙ ap (λ (n : ℕ). straight-replied n output (read-variant variants-to-a-block l v)) (sym (samples-are (c .has .has .stored) (c .has .has .fields-are))))
+    (refuses-record (c .has) y body-categories)
+  where
+    l : Layout
+    l = c .has .has .layout
+
+    go : (m : Out (List ℕ)) → record-left r out ≡ straight-replied (f .samples) output m → Refuses RecordNumber m → Given (f .samples) output r out m
+    go (ok row left) e all = (ap reply-of e, ap row-of e)
+    go (refused why) e all = (ap reply-of e, ap row-of e, record-clears-work (why .number) all)

@@ -20,6 +20,7 @@ use Rattle.head_blocks.specs.Parts.{fixed}
 use Rattle.head_records.specs.Extent.{record-type}
 use Rattle.head_places.specs.Located.{HasLayout, HasVariant}
 use Rattle.read_record.specs.Recorded.{replied, RecordLeft, record-left, PhasedLeft, phased-left}
+use Rattle.read_check.specs.Straight.{straight-replied}
 
 -- ---- what is given
 
@@ -72,6 +73,12 @@ row-read l v row = row-replied (l .samples) row (read-variant variants-to-a-bloc
 pub record VariantRead (index held : List ℕ) (f : Fields) (v : FileVariant) (row : List ℕ) (r : Reply) (later : List ℕ) : Type 0 where
   pub has : HasVariant index held f v
   pub is : record-left r later ≡ row-read (has .has .layout) v row
+
+-- 02, Ask 3: "straight to the output": its categories in the output's first N bytes, and after a refusal it is as it was; the row's first N bytes are zero
+pub record VariantGiven (index held : List ℕ) (f : Fields) (v : FileVariant) (output row : List ℕ) (r : Reply) (out later : List ℕ) : Type 0 where
+  pub has : HasVariant index held f v
+  pub is : record-left r out ≡ straight-replied (has .has .layout .samples) output (read-variant variants-to-a-block (has .has .layout) v)
+  pub cleared : later ≡ emptied (f .samples) row
 
 -- and phases in the output's first N bytes; after a refusal it is as it was
 abbrev pub reading-replied : ℕ → List ℕ → List ℕ → Out Reading → PhasedLeft

@@ -4,9 +4,10 @@ ghost use Prim.Native.Nat.{_≤_};
 ghost use lib.ListN.{length};
 ghost use Rattle.format.specs.Limits.{most-variants};
 ghost use Rattle.head_places.specs.Located.{Located};
-ghost use Rattle.read_file.specs.Rows.{HasRow, HasVariantRow, TypeIfAny, RecordsChecked, AnchorRead, VariantRead, VariantPhased};
+ghost use Rattle.read_file.specs.Rows.{HasRow, HasVariantRow, TypeIfAny, RecordsChecked, AnchorRead, VariantRead, VariantGiven, VariantPhased};
 use base_cursor::Cursor;
 use base_rows::clear;
+use base_rows::copy;
 use format::Fields;
 use format::FileVariant;
 use format::Reply;
@@ -20,6 +21,7 @@ use head_records::size_of;
 use head_records::type_of;
 use head_types::type_leans;
 use read_check::check_next;
+use read_check::read_straight;
 use read_record::read_body;
 use read_record::read_phased;
 
@@ -91,12 +93,12 @@ fn read_anchor(
     Reply::Accepted
 }
 
-// 01: "a read or lookup checks only its variant's, and an anchor is checked before the record that leans on it"
-pub fn read_row(index: &[u8], held: &[u8], f: Fields, v: FileVariant, row: &mut [u8]) -> Reply
+// 01: "a read or lookup checks only its variant's, and an anchor is checked before the record that leans on it". The record of variant v stands at `p`.
+fn read_at(index: &[u8], held: &[u8], f: Fields, v: FileVariant, p: Place, row: &mut [u8]) -> Reply
     requires { ⌜ HasVariantRow (now index) (now held) f v (now row) ⌝ }
+    requires { ⌜ Located (now index) (now held) f v p ⌝ }
     ensures { λ r. ⌜ VariantRead (now (index .entry)) (now (held .entry)) f v (now (row .entry)) r (now (row .exit)) ⌝ }
 {
-    let p = place_of(index, held, f, v);
     let end = p.end;
     let here = Cursor { at: p.start };
     let lent = read_anchor(index, held, f, v, p, row);
@@ -107,6 +109,68 @@ pub fn read_row(index: &[u8], held: &[u8], f: Fields, v: FileVariant, row: &mut 
             named_reply(v, got)
         }
     }
+}
+
+// The categories of variant v into the row.
+pub fn read_row(index: &[u8], held: &[u8], f: Fields, v: FileVariant, row: &mut [u8]) -> Reply
+    requires { ⌜ HasVariantRow (now index) (now held) f v (now row) ⌝ }
+    ensures { λ r. ⌜ VariantRead (now (index .entry)) (now (held .entry)) f v (now (row .entry)) r (now (row .exit)) ⌝ }
+{
+    let p = place_of(index, held, f, v);
+    read_at(index, held, f, v, p, row)
+}
+
+// A record that leans is read in the row, which held its anchor's categories, and copied from there.
+fn copy_leaning(
+    index: &[u8],
+    held: &[u8],
+    f: Fields,
+    v: FileVariant,
+    p: Place,
+    output: &mut [u8],
+    row: &mut [u8],
+) -> Reply
+    requires { ⌜ HasVariantRow (now index) (now held) f v (now row) ⌝ }
+    requires { ⌜ Located (now index) (now held) f v p × (f .samples ≤ length (now output)) ⌝ }
+    ensures { λ r. ⌜ VariantGiven (now (index .entry)) (now (held .entry)) f v (now (output .entry)) (now (row .entry))
+        r (now (output .exit)) (now (row .exit)) ⌝ }
+{
+    let n = f.samples;
+    let got = read_at(index, held, f, v, p, row);
+    match got {
+        Reply::Refused(why) => Reply::Refused(why),
+        Reply::Accepted => {
+            copy(row, n, output);
+            clear(row, n);
+            Reply::Accepted
+        }
+    }
+}
+
+// The categories of variant v into the output, which a refusal finds untouched. 02, Ask 3: one that leans on nothing goes "straight to the output".
+pub fn read_output(
+    index: &[u8],
+    held: &[u8],
+    f: Fields,
+    v: FileVariant,
+    output: &mut [u8],
+    row: &mut [u8],
+) -> Reply
+    requires { ⌜ HasVariantRow (now index) (now held) f v (now row) ⌝ }
+    requires { ⌜ f .samples ≤ length (now output) ⌝ }
+    ensures { λ r. ⌜ VariantGiven (now (index .entry)) (now (held .entry)) f v (now (output .entry)) (now (row .entry))
+        r (now (output .exit)) (now (row .exit)) ⌝ }
+{
+    let p = place_of(index, held, f, v);
+    if type_leans(p.record_type) {
+        return copy_leaning(index, held, f, v, p, output, row);
+    }
+    let end = p.end;
+    let n = f.samples;
+    let here = Cursor { at: p.start };
+    let got = read_straight(&held[..end], here, n, p.record_type, output);
+    clear(row, n);
+    named_reply(v, got)
 }
 
 // Likewise, and its phases into the output, which a refusal finds untouched.

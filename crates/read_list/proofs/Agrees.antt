@@ -1,6 +1,7 @@
 -- The list by position, its row cleared after a refusal, is the contract's `listed`.
 -- Assumes nothing.
-use mathlib.Core.Path.{_≡_, refl, sym, ap, _∙_}
+use mathlib.Core.Path.{_≡_, refl, sym, ap, _∙_, subst}
+use mathlib.Core.Bool.{Bool, true}
 use Prim.Native.Nat.{ℕ, zero, suc, _≤_, _<_}
 use native.Mathlib.Omega.{arith}
 use mathlib.Core.List.{List, [], _∷_, _++_}
@@ -14,7 +15,7 @@ use Rattle.format.proofs.Rules.{Holds, below-drop}
 use Rattle.format.proofs.DifflistLaws.{IsList, list-as-written}
 use Rattle.base_cursor.proofs.ByteLaws.{bytes-of}
 use Rattle.base_cursor.specs.declared.Cursor.{Cursor}
-use Rattle.read_list.specs.Entries.{list-left}
+use Rattle.read_list.specs.Entries.{ListLeft, list-left, Lists}
 use Rattle.read_list.specs.Parts.{put-parts}
 use Rattle.read_list.specs.Listed.{may-hold, list-at, list-replied, listed}
 use Rattle.read_list.specs.declared.ListRule.{ListRule}
@@ -60,6 +61,15 @@ agrees l at n held row y a h =
     list-agrees l y n held (take n row) row (against n row h) at a
     ∙ within u (number-width n) (length l) n (drop at l) row refl h (list-at held n l at row)
     (list-as-written u (number-width n) (length l) (drop at l) (below-drop 256 at l (bytes-of l y)))
+
+-- an accepted list is no refusal before a refusal has cleared the row
+pub list-known : (l : List ℕ) (at n : ℕ) (held : ListRule) (row : List ℕ) → Known l → at ≤ length l → n ≤ length row → (k : Bool)
+    → (k ≡ true → Lists (listed held n l at row)) → k ≡ true → Lists (put-parts held n l at row)
+list-known l at n held row known a h k f t = go (put-parts held n l at row) (agrees l at n held row (λ i. known i .fits) a h)
+  where
+    go : (o : ListLeft) → cleared n o ≡ listed held n l at row → Lists o
+    go (list-left (Listed c) new) e = tt
+    go (list-left (Refused why) new) e = subst Lists (sym e) (f t)
 
 -- the ways out of `put_list`: r and `new` are what `put_parts` gave
 module _ (l : List ℕ) (at n : ℕ) (held : ListRule) (row : List ℕ) (r : ListStep) (new : List ℕ)

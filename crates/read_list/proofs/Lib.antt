@@ -4,6 +4,11 @@ pub mod EntryLaws
 pub mod RoomLaws
 pub mod LoopLaws
 pub mod CheckLaws
+pub mod ShortWalks
+pub mod KnownWalks
+pub mod RunValues
+pub mod RunLaws
+pub mod RunWalks
 pub mod WholeLaws
 pub mod EntriesAgree
 pub mod FitLaws

@@ -1,13 +1,11 @@
--- A turn of the loops of `put_entries` and `put_short_steps`.
+-- A turn of the loop of `put_entries`, and a short step.
 -- Assumes nothing.
-use mathlib.Core.Path.{_≡_, refl, sym, _∙_}
+use mathlib.Core.Path.{_≡_, refl, sym, _∙_, subst}
 use Prim.Native.Nat.{ℕ, suc, _+_, _-_, _/_, _≤_, _<_}
 use native.Mathlib.Omega.{arith}
-use mathlib.Core.Bool.{Bool, false, not}
+use mathlib.Core.Bool.{Bool, true, false, not}
 use mathlib.Core.List.{List}
 use lib.ListN.{getD, length, set, length-set}
-use mir.Syntax.{w64}
-use mir.Val.{Fits}
 use borrow.Author.Tests.{not-false}
 use Rattle.format.specs.declared.Refusal.{Refusal}
 use Rattle.base_cursor.specs.Steps.{varint-at, short-at}
@@ -15,7 +13,7 @@ use Rattle.base_cursor.specs.declared.Cursor.{Cursor}
 use Rattle.base_cursor.specs.declared.ShortStep.{ShortStep}
 use Rattle.base_cursor.specs.declared.ShortStep.the-variants.{Short}
 use Rattle.base_cursor.proofs.ShortLaws.{short-reads}
-use Rattle.read_list.specs.Entries.{value-at, allows, Against, moved, next-sample, bump, turn, put-entry, put-entries, ListLeft, list-left}
+use Rattle.read_list.specs.Entries.{value-at, allows, Against, moved, next-sample, bump, turn, put-entry, put-entries, ListLeft, list-left, Lists}
 use Rattle.read_list.specs.Room.{EntryReady, Room}
 use Rattle.read_list.specs.Walked.{Putting}
 use Rattle.read_list.specs.declared.ListRule.{ListRule}
@@ -26,7 +24,7 @@ use Rattle.read_list.specs.declared.ListStep.the-variants as list
 use Rattle.read_list.proofs.NumberLaws.{Known}
 use Rattle.read_list.proofs.SampleLaws.{step-on, is-step}
 use Rattle.read_list.proofs.EntryLaws.{against-row, put-entry-on}
-use Rattle.read_list.proofs.RoomLaws.{put-room, ready}
+use Rattle.read_list.proofs.RoomLaws.{Passed, put-one, ready}
 
 -- a short step is the next sample
 pub short-sample : (l : List ℕ) (n : ℕ) (st : State) → st .last < n → (st .room ≡ 0 → ⊥) → (got : ShortStep) → got ≡ short-at l (st .at .at)
@@ -37,11 +35,11 @@ short-sample l n st b z got e step next q k h =
 pub less : {more : ℕ} → 0 < more → more - 1 < more
 less p = omega arith
 
--- ---- `Putting` is the invariant of both loops
+-- ---- `Putting` is the invariant
 
 module _ {l : List ℕ} {n vals : ℕ} {held : ListRule} {count : ℕ} where
   pub put-start : {st : State} {row : List ℕ} → Room l n vals count st → n ≤ length row → Putting l n vals held count st row row st count
-  put-start r h = record { same = refl; room = r; long = refl; holds = h; fewer = omega arith }
+  put-start r h = record { same = refl; room = r; long = refl; holds = h; fewer = omega arith; all = refl }
 
   module _ {first : State} {row₀ row : List ℕ} {st : State} {more : ℕ} (w : Putting l n vals held count first row₀ row st more) where
     abbrev whole : ListLeft
@@ -58,9 +56,6 @@ module _ {l : List ℕ} {n vals : ℕ} {held : ListRule} {count : ℕ} where
       pub put-value-there : vals + st .passed / 4 < length l
       put-value-there = omega (arith, w .room .values)
 
-      pub put-passed : Fits w64 (st .passed + 1)
-      put-passed = omega (arith, w .room .few)
-
       last-more : suc (more - 1) ≡ more
       last-more = omega arith
 
@@ -73,17 +68,28 @@ module _ {l : List ℕ} {n vals : ℕ} {held : ListRule} {count : ℕ} where
         put-stop q = rw (← e, q) at opened
 
         module _ (known : Known l) {t : State} (q : r ≡ entry.On t) where
+          one-more : Passed l n vals (more - 1) st (rw last-more (w .room)) t
+          one-more = put-one l n vals (more - 1) st (rw last-more (w .room)) (λ i. known i .fits) held row t last (rw q at e)
+
           pub put-on-room : Room l n vals (more - 1) t
-          put-on-room = put-room l n vals (more - 1) st (rw last-more (w .room)) (λ i. known i .fits) held row t last (rw q at e)
+          put-on-room = one-more .room
+
+          same-on : put-entries (more - 1) l n vals held t last ≡ whole
+          unfolding put-entries
+          same-on = rw (← e, q) at opened
+
+          -- an accepted list is accepted from here
+          pub put-lists : (k : Bool) → (k ≡ true → Lists whole) → k ≡ true → Lists (put-entries (more - 1) l n vals held t last)
+          put-lists k h u = subst Lists (sym same-on) (h u)
 
           on : length last ≡ length row → Putting l n vals held count first row₀ last t (more - 1)
-          unfolding put-entries
           on a = record {
-            same = rw (← e, q) at opened;
+            same = same-on;
             room = put-on-room;
             long = a ∙ w .long;
             holds = omega (arith, w .holds);
             fewer = omega (arith, w .fewer);
+            all = omega (arith, w .all, one-more .one);
           }
 
           -- the walk of the short steps goes on from here
@@ -95,6 +101,7 @@ module _ {l : List ℕ} {n vals : ℕ} {held : ListRule} {count : ℕ} where
             long = g .long ∙ on a .long;
             holds = g .holds;
             fewer = omega (arith, g .fewer, w .fewer);
+            all = g .all ∙ on a .all;
           }
 
       -- a short step
@@ -114,5 +121,3 @@ module _ {l : List ℕ} {n vals : ℕ} {held : ListRule} {count : ℕ} where
             vals held row value v b f (not-false b t)) known refl (length-set row (st .last + step) value)
 
 pub ruleset put-laws = (put-start, put-end, put-ready, put-value-there, put-stop, put-on-room, put-on-with)
-
-pub ruleset put-short-laws = (put-start, put-value-there, put-sample, put-against)

@@ -43,8 +43,13 @@ ready l n vals more st p r =
 
 -- the room after the sample that comes next
 module _ (l : List ℕ) (n vals more : ℕ) (st : State) (r : Room l n vals (suc more) st) where
+  -- after the entry: it is one more that is passed
+  pub record Passed (t : State) : Type 0 where
+    pub room : Room l n vals more t
+    pub one : t .passed ≡ st .passed + 1
+
   abbrev Next : State → Type 0
-  Next t = Room l n vals more (bump t)
+  Next t = Passed (bump t)
 
   room-head : (least : ℕ) (size : Cursor) → st .room ≡ 0 → size .at + (1 - st .passed) ≡ st .size .at + 1 → Goes Next (take-head l n least size st)
   unfolding take-head
@@ -53,15 +58,18 @@ module _ (l : List ℕ) (n vals more : ℕ) (st : State) (r : Room l n vals (suc
       let e : (suc more + (63 - st .room)) / 64 ≡ suc (more / 64) = omega arith in
       let f : (more + (63 - 63)) / 64 ≡ more / 64 = omega arith in
       record {
-        few = omega (arith, r .few);
-        group = omega arith;
-        begun = λ o. absurd (omega arith);
-        below = b;
-        steps = r .steps;
-        from = omega arith;
-        values = omega (arith, r .values);
-        heads = rw f (omega (arith, r .heads, one-head (number-width n) _ _ e));
-        sizes = rw f (omega (arith, r .sizes));
+        room = record {
+          few = omega (arith, r .few);
+          group = omega arith;
+          begun = λ o. absurd (omega arith);
+          below = b;
+          steps = r .steps;
+          from = omega arith;
+          values = omega (arith, r .values);
+          heads = rw f (omega (arith, r .heads, one-head (number-width n) _ _ e));
+          sizes = rw f (omega (arith, r .sizes));
+        };
+        one = refl;
       })
 
   room-step : ((i : ℕ) → getD l i 0 < 256) → (m : VarintStep) → varint-at l (st .at .at) ≡ m → (st .room ≡ 0 → ⊥) → (st .passed ≡ 0 → ⊥)
@@ -75,15 +83,18 @@ module _ (l : List ℕ) (n vals more : ℕ) (st : State) (r : Room l n vals (suc
       let v : 1 - (st .passed + 1) ≡ 0 = omega arith in
       let q : Read l (st .at .at) d c = was-read l (st .at .at) d c y (r .steps) (sym e) in
       record {
-        few = omega (arith, r .few);
-        group = omega (arith, r .group);
-        begun = λ o. absurd (omega arith);
-        below = b;
-        steps = q .inside;
-        from = omega (arith, r .from, q .on);
-        values = omega (arith, r .values);
-        heads = rw f at (r .heads);
-        sizes = rw v (rw (f, u) at (r .sizes));
+        room = record {
+          few = omega (arith, r .few);
+          group = omega (arith, r .group);
+          begun = λ o. absurd (omega arith);
+          below = b;
+          steps = q .inside;
+          from = omega (arith, r .from, q .on);
+          values = omega (arith, r .values);
+          heads = rw f at (r .heads);
+          sizes = rw v (rw (f, u) at (r .sizes));
+        };
+        one = refl;
       })
 
   room-sample : ((i : ℕ) → getD l i 0 < 256) → Goes Next (next-sample l n st)
@@ -103,24 +114,26 @@ module _ (l : List ℕ) (n vals more : ℕ) (st : State) (r : Room l n vals (suc
       room-step y (varint-at l (st .at .at)) refl z (λ k. z (r .begun k)))
 
   -- and after the entry, checked or put
-  room-check : (held : ListRule) (row : List ℕ) (s : EntryStep) → Goes Next s → Goes (Room l n vals more) (check-value l vals held s row)
+  room-check : (held : ListRule) (row : List ℕ) (s : EntryStep) → Goes Next s → Goes Passed (check-value l vals held s row)
   unfolding check-value
   room-check held row (Refused why) g = tt
-  room-check held row (On t) g =
-      by-test (Goes (Room l n vals more)) (allows held (getD row (t .last) 0) (value-at l vals (t .passed))) (λ a. g) (λ a. tt)
+  room-check held row (On t) g = by-test (Goes Passed) (allows held (getD row (t .last) 0) (value-at l vals (t .passed))) (λ a. g) (λ a. tt)
+
+  pub check-one : ((i : ℕ) → getD l i 0 < 256) → (held : ListRule) (row : List ℕ) (t : State) → On t ≡ check-entry l n vals held st row → Passed t
+  check-one y held row t e = subst (Goes Passed) (sym e) (room-check held row (next-sample l n st) (room-sample y))
 
   pub checked-room : ((i : ℕ) → getD l i 0 < 256) → (held : ListRule) (row : List ℕ) (t : State) → On t ≡ check-entry l n vals held st row
       → Room l n vals more t
-  checked-room y held row t e = subst (Goes (Room l n vals more)) (sym e) (room-check held row (next-sample l n st) (room-sample y))
+  checked-room y held row t e = check-one y held row t e .room
 
   abbrev Turned : Turn → Type 0
-  Turned (turn x last) = Goes (Room l n vals more) x
+  Turned (turn x last) = Goes Passed x
 
   room-put : (held : ListRule) (row : List ℕ) (s : EntryStep) → Goes Next s → Turned (put-value l vals held s row)
   unfolding put-value
   room-put held row (Refused why) g = tt
   room-put held row (On t) g = by-test Turned (allows held (getD row (t .last) 0) (value-at l vals (t .passed))) (λ a. g) (λ a. tt)
 
-  pub put-room : ((i : ℕ) → getD l i 0 < 256) → (held : ListRule) (row : List ℕ) (t : State) (last : List ℕ)
-      → turn (On t) last ≡ put-entry l n vals held st row → Room l n vals more t
-  put-room y held row t last e = subst Turned (sym e) (room-put held row (next-sample l n st) (room-sample y))
+  pub put-one : ((i : ℕ) → getD l i 0 < 256) → (held : ListRule) (row : List ℕ) (t : State) (last : List ℕ)
+      → turn (On t) last ≡ put-entry l n vals held st row → Passed t
+  put-one y held row t last e = subst Turned (sym e) (room-put held row (next-sample l n st) (room-sample y))

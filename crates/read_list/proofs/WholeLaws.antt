@@ -22,7 +22,7 @@ use Rattle.base_cursor.proofs.VarintLaws.{was-read}
 use Rattle.base_cursor.specs.declared.Cursor.{Cursor}
 use Rattle.base_cursor.specs.declared.VarintStep.{VarintStep}
 use Rattle.base_cursor.specs.declared.VarintStep.the-variants as varint
-use Rattle.read_list.specs.Entries.{ListLeft, list-left, put-entries, check-entries}
+use Rattle.read_list.specs.Entries.{ListLeft, list-left, Lists, put-entries, check-entries}
 use Rattle.read_list.specs.Parts.{count-of, sizes-at, values-at, steps-at, lay-out, counted-out, put-parts, check-parts}
 use Rattle.read_list.specs.Room.{Room}
 use Rattle.read_list.specs.declared.ListRule.{ListRule}
@@ -154,6 +154,11 @@ module _ (l : List ℕ) (at n : ℕ) (held : ListRule) (row : List ℕ) (r : Cou
     module _ (z : m ≡ 0 → ⊥) (d : PartsStep) (f : d ≡ lay-out l n m (c .at)) where
       pub put-unfit : (why : Refusal) → d ≡ parts.Refused why → list-left (list.Refused why) row ≡ put-parts held n l at row
       put-unfit why p = out-unfit stop entries l n r m c q z d f why p ∙ put-is
+
+      -- an accepted list is accepted from its first entry
+      pub parts-known : (vals : ℕ) (st : State) → d ≡ parts.Fits vals st → (k : Bool) → (k ≡ true → Lists (put-parts held n l at row)) → k ≡ true
+          → Lists (put-entries m l n vals held st row)
+      parts-known vals st p k h t = subst Lists (sym (out-fits stop entries l n r m c q z d f vals st p ∙ put-is)) (h t)
 
       pub put-fits : (vals : ℕ) (st : State) → d ≡ parts.Fits vals st → (o : ListLeft) → o ≡ put-entries m l n vals held st row
           → o ≡ put-parts held n l at row

@@ -100,6 +100,11 @@ put-entry l n vals held st row = put-value l vals held (next-sample l n st) row
 pub data ListLeft : Type 0 where
   list-left : ListStep → List ℕ → ListLeft
 
+-- it is no refusal
+abbrev pub Lists : ListLeft → Type 0
+Lists (list-left (list.Listed c) row) = Unit {0}
+Lists (list-left (list.Refused why) row) = ⊥
+
 abbrev pub go-on : Turn → (State → List ℕ → ListLeft) → ListLeft
 go-on (turn (entry.Refused why) row) f = list-left (list.Refused why) row
 go-on (turn (entry.On st) row) f = f st row

@@ -1,6 +1,7 @@
 pub mod Entries
 pub mod Room
 pub mod Walked
+pub mod Runs
 pub mod Parts
 pub mod Listed
 pub mod Checked

@@ -13,14 +13,21 @@ use crate::entry::next_head;
 use crate::entry::take_step;
 use crate::lay_parts;
 use crate::read_count;
+use crate::run::after_run;
+use crate::run::lesser;
+use crate::run::run_of;
+use crate::run::walked;
+use crate::values::values_off;
 use base_cursor::Cursor;
 use base_cursor::ShortStep;
 ghost use mathlib.Core.Path.{_≡_};
+ghost use mathlib.Core.Bool.{true};
 ghost use Prim.Native.Nat.{_+_, _/_, _≤_, _<_};
 ghost use lib.ListN.{length};
 ghost use Rattle.format.specs.Limits.{most-samples};
 ghost use Rattle.read_list.specs.Room.{Room, EntryReady};
 ghost use Rattle.read_list.specs.Walked.{Checking};
+ghost use Rattle.read_list.specs.Runs.{AllOff};
 ghost use Rattle.read_list.specs.Entries.{Against, check-entry, check-entries};
 ghost use Rattle.read_list.specs.Checked.{checked};
 
@@ -63,38 +70,56 @@ fn check_short_steps(
     requires { ⌜ Against held n (now row) ⌝ }
     ensures { λ r. ⌜ Checking (now (s .entry)) n values held count first (now (row .entry)) (r .st) (r .more) ⌝ }
 {
-    let mut st = first;
-    let mut more = count;
-    while more > 0 {
-        if st.room == 0 {
-            return Walk { st, more };
+    let from = first.passed;
+    let end = from + lesser(first.room, count);
+    let mut here = first.at;
+    let mut last = first.last;
+    let mut passed = from;
+    while passed < end {
+        let ShortStep::Short(step, next) = here.short(s) else {
+            break;
+        };
+        if step == 0 {
+            break;
         }
-        let here = st.at;
-        match here.short(s) {
-            ShortStep::NotShort => {
-                return Walk { st, more };
-            }
-            ShortStep::Short(step, next) => {
-                if step == 0 {
-                    return Walk { st, more };
-                }
-                if step >= n - st.last {
-                    return Walk { st, more };
-                }
-                let sample = st.last + step;
-                let value = read_packed::two_bits(s, values, st.passed);
-                if !may_hold(held, row, sample, value) {
-                    return Walk { st, more };
-                }
-                st.room = st.room - 1;
-                st.last = sample;
-                st.passed = st.passed + 1;
-                st.at = next;
-                more = more - 1;
-            }
+        if step >= n - last {
+            break;
         }
+        let sample = last + step;
+        let value = read_packed::two_bits(s, values, passed);
+        if !may_hold(held, row, sample, value) {
+            break;
+        }
+        last = sample;
+        here = next;
+        passed = passed + 1;
     }
-    Walk { st, more }
+    walked(first, count, passed - from, last, here)
+}
+
+// The steps that follow an entry, as many as are accepted: a run of them at once, if `off` says that the list may hold its values. The walk step by step is
+// called from two places, so that it stays a function with the registers for itself.
+fn check_group(
+    s: &[u8],
+    n: usize,
+    values: usize,
+    held: ListRule,
+    off: bool,
+    first: State,
+    count: usize,
+    row: &[u8],
+) -> Walk
+    requires { ⌜ Room (now s) n values count first ⌝ }
+    requires { ⌜ Against held n (now row) ⌝ }
+    requires { ⌜ (off ≡ true → AllOff (now s) values (first .passed + count) held) ⌝ }
+    ensures { λ r. ⌜ Checking (now (s .entry)) n values held count first (now (row .entry)) (r .st) (r .more) ⌝ }
+{
+    if !off {
+        return check_short_steps(s, n, values, held, first, count, row);
+    }
+    let run = run_of(s, n, first, count);
+    let st = after_run(first, run);
+    check_short_steps(s, n, values, held, st, count - run.count, row)
 }
 
 // All entries, one after another.
@@ -113,6 +138,7 @@ fn check_entries(
 {
     let mut st = first;
     let mut more = count;
+    let off = values_off(s, values, first.passed + count, held);
     while more > 0 {
         let got = check_entry(s, n, values, held, st, row);
         match got {
@@ -120,7 +146,7 @@ fn check_entries(
                 return ListStep::Refused(why);
             }
             EntryStep::On(next) => {
-                let walk = check_short_steps(s, n, values, held, next, more - 1, row);
+                let walk = check_group(s, n, values, held, off, next, more - 1, row);
                 st = walk.st;
                 more = walk.more;
             }

@@ -5,12 +5,15 @@ use crate::ListRule;
 use crate::ListStep;
 use crate::State;
 use crate::Walk;
+use crate::run::lesser;
+use crate::run::walked;
 use base_cursor::Cursor;
 use base_cursor::ShortStep;
 use base_cursor::VarintStep;
 use base_list::number_width;
 use format::refusal_at;
 ghost use mathlib.Core.Path.{_≡_};
+ghost use mathlib.Core.Bool.{true};
 ghost use Prim.Native.Nat.{suc, _+_, _/_, _≤_, _<_};
 ghost use lib.ListN.{length, getD};
 ghost use Rattle.format.specs.Limits.{most-samples};
@@ -18,9 +21,9 @@ ghost use Rattle.format.specs.Difflist.{number-width};
 ghost use Rattle.base_cursor.specs.Steps.{varint-at};
 ghost use Rattle.read_list.specs.declared.EntryStep.the-variants.{On};
 ghost use Rattle.read_list.specs.Room.{Room, EntryReady};
-ghost use Rattle.read_list.specs.Walked.{Putting};
+ghost use Rattle.read_list.specs.Walked.{Putting, Accepted, PutKnown};
 ghost use Rattle.read_list.specs.Entries.{allows, Against, take-head, take-step, next-head, check-value};
-ghost use Rattle.read_list.specs.Entries.{turn, put-entry, list-left, put-entries};
+ghost use Rattle.read_list.specs.Entries.{turn, put-entry, list-left, Lists, put-entries};
 
 // May the list hold `value` for a sample of the row? A list off a pair asks no row.
 pub fn may_hold(held: ListRule, row: &[u8], sample: usize, value: u8) -> bool
@@ -176,39 +179,85 @@ fn put_short_steps(
     requires { ⌜ n ≤ length (now row) ⌝ }
     ensures { λ r. ⌜ Putting (now (s .entry)) n values held count first (now (row .entry)) (now (row .exit)) (r .st) (r .more) ⌝ }
 {
-    let mut st = first;
-    let mut more = count;
-    while more > 0 {
-        if st.room == 0 {
-            return Walk { st, more };
+    let passed = first.passed;
+    let least = lesser(first.room, count);
+    let mut here = first.at;
+    let mut last = first.last;
+    let mut done = 0;
+    while done < least {
+        let ShortStep::Short(step, next) = here.short(s) else {
+            break;
+        };
+        if step == 0 {
+            break;
         }
-        let here = st.at;
-        match here.short(s) {
-            ShortStep::NotShort => {
-                return Walk { st, more };
-            }
-            ShortStep::Short(step, next) => {
-                if step == 0 {
-                    return Walk { st, more };
-                }
-                if step >= n - st.last {
-                    return Walk { st, more };
-                }
-                let sample = st.last + step;
-                let value = read_packed::two_bits(s, values, st.passed);
-                if !may_hold(held, &row[..], sample, value) {
-                    return Walk { st, more };
-                }
-                row[sample] = value;
-                st.room = st.room - 1;
-                st.last = sample;
-                st.passed = st.passed + 1;
-                st.at = next;
-                more = more - 1;
-            }
+        if step >= n - last {
+            break;
         }
+        let sample = last + step;
+        let value = read_packed::two_bits(s, values, passed + done);
+        if !may_hold(held, &row[..], sample, value) {
+            break;
+        }
+        row[sample] = value;
+        last = sample;
+        here = next;
+        done = done + 1;
     }
-    Walk { st, more }
+    walked(first, count, done, last, here)
+}
+
+// The same of a list that was accepted before: each test would hold.
+fn put_known_steps(
+    s: &[u8],
+    n: usize,
+    values: usize,
+    first: State,
+    count: usize,
+    row: &mut [u8],
+) -> Walk
+    requires { ⌜ Room (now s) n values count first ⌝ }
+    requires { ⌜ n ≤ length (now row) ⌝ }
+    requires { ⌜ Accepted (now s) n values count first (now row) ⌝ }
+    ensures { λ r. ⌜ PutKnown (now (s .entry)) n values count first (now (row .entry)) (now (row .exit)) (r .st) (r .more) ⌝ }
+{
+    let passed = first.passed;
+    let least = lesser(first.room, count);
+    let mut here = first.at;
+    let mut last = first.last;
+    let mut done = 0;
+    while done < least {
+        let ShortStep::Short(step, next) = here.short(s) else {
+            break;
+        };
+        last = last + step;
+        row[last] = read_packed::two_bits(s, values, passed + done);
+        here = next;
+        done = done + 1;
+    }
+    walked(first, count, done, last, here)
+}
+
+// The steps that follow an entry. `known` tells that the list was accepted before.
+fn put_steps(
+    s: &[u8],
+    n: usize,
+    values: usize,
+    held: ListRule,
+    known: bool,
+    first: State,
+    count: usize,
+    row: &mut [u8],
+) -> Walk
+    requires { ⌜ Room (now s) n values count first ⌝ }
+    requires { ⌜ n ≤ length (now row) ⌝ }
+    requires { ⌜ (known ≡ true → Lists (put-entries count (now s) n values held first (now row))) ⌝ }
+    ensures { λ r. ⌜ Putting (now (s .entry)) n values held count first (now (row .entry)) (now (row .exit)) (r .st) (r .more) ⌝ }
+{
+    if known {
+        return put_known_steps(s, n, values, first, count, row);
+    }
+    put_short_steps(s, n, values, held, first, count, row)
 }
 
 // All entries, one after another.
@@ -217,12 +266,14 @@ pub fn put_entries(
     n: usize,
     values: usize,
     held: ListRule,
+    known: bool,
     first: State,
     count: usize,
     row: &mut [u8],
 ) -> ListStep
     requires { ⌜ Room (now s) n values count first ⌝ }
     requires { ⌜ n ≤ length (now row) ⌝ }
+    requires { ⌜ (known ≡ true → Lists (put-entries count (now s) n values held first (now row))) ⌝ }
     ensures { λ r. ⌜ list-left r (now (row .exit)) ≡ put-entries count (now (s .entry)) n values held first (now (row .entry)) ⌝ }
 {
     let mut st = first;
@@ -234,7 +285,7 @@ pub fn put_entries(
                 return ListStep::Refused(why);
             }
             EntryStep::On(next) => {
-                let walk = put_short_steps(s, n, values, held, next, more - 1, row);
+                let walk = put_steps(s, n, values, held, known, next, more - 1, row);
                 st = walk.st;
                 more = walk.more;
             }

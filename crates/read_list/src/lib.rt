@@ -7,16 +7,19 @@ use format::Refusal;
 use format::refusal_at;
 use read_packed::Width;
 ghost use mathlib.Core.Path.{_≡_};
+ghost use mathlib.Core.Bool.{true};
 ghost use Prim.Native.Nat.{_≤_, _<_};
 ghost use lib.ListN.{length};
 ghost use Rattle.format.specs.Limits.{most-samples};
 ghost use Rattle.base_cursor.specs.Steps.{varint-at};
-ghost use Rattle.read_list.specs.Entries.{list-left};
+ghost use Rattle.read_list.specs.Entries.{list-left, Lists};
 ghost use Rattle.read_list.specs.Parts.{count-of, lay-out, put-parts};
 ghost use Rattle.read_list.specs.Listed.{listed};
 
 pub mod check;
 pub mod entry;
+pub mod run;
+pub mod values;
 
 use crate::entry::put_entries;
 
@@ -48,6 +51,13 @@ pub struct State {
 pub struct Walk {
     pub st: State,
     pub more: usize,
+}
+
+// Steps of a byte or two that stand one after another: how many, the bytes that they take, and what they come to.
+pub struct StepRun {
+    pub count: usize,
+    pub size: usize,
+    pub sum: usize,
 }
 
 // The place after an entry's sample or value, or a refusal.
@@ -116,9 +126,10 @@ pub fn lay_parts(s: &[u8], n: usize, m: usize, c: Cursor) -> PartsStep
 }
 
 // A list, whose entries stay in the row where a later one is refused.
-fn put_parts(s: &[u8], n: usize, held: ListRule, c: Cursor, row: &mut [u8]) -> ListStep
+fn put_parts(s: &[u8], n: usize, held: ListRule, known: bool, c: Cursor, row: &mut [u8]) -> ListStep
     requires { ⌜ c .at ≤ length (now s) ⌝ }
     requires { ⌜ (n ≤ length (now row)) × (n ≤ most-samples) ⌝ }
+    requires { ⌜ (known ≡ true → Lists (put-parts held n (now s) (c .at) (now row))) ⌝ }
     ensures { λ r. ⌜ list-left r (now (row .exit)) ≡ put-parts held n (now (s .entry)) (c .at) (now (row .entry)) ⌝ }
 {
     let counted = read_count(s, n, c);
@@ -131,19 +142,30 @@ fn put_parts(s: &[u8], n: usize, held: ListRule, c: Cursor, row: &mut [u8]) -> L
             let laid = lay_parts(s, n, m, next);
             match laid {
                 PartsStep::Refused(why) => ListStep::Refused(why),
-                PartsStep::Fits { values, first } => put_entries(s, n, values, held, first, m, row),
+                PartsStep::Fits { values, first } => {
+                    put_entries(s, n, values, held, known, first, m, row)
+                }
             }
         }
     }
 }
 
-// The list at `c`, of n samples: its values are put into the row's first n bytes, which hold what the list is against, and a refusal leaves them zero.
-pub fn put_list(s: &[u8], n: usize, held: ListRule, c: Cursor, row: &mut [u8]) -> ListStep
+// The list at `c`, of n samples: its values are put into the row's first n bytes, which hold what the list is against, and a refusal leaves them zero. `known`
+// tells that it was accepted before.
+pub fn put_list(
+    s: &[u8],
+    n: usize,
+    held: ListRule,
+    known: bool,
+    c: Cursor,
+    row: &mut [u8],
+) -> ListStep
     requires { ⌜ c .at ≤ length (now s) ⌝ }
     requires { ⌜ (n ≤ length (now row)) × (n ≤ most-samples) ⌝ }
+    requires { ⌜ (known ≡ true → Lists (listed held n (now s) (c .at) (now row))) ⌝ }
     ensures { λ r. ⌜ list-left r (now (row .exit)) ≡ listed held n (now (s .entry)) (c .at) (now (row .entry)) ⌝ }
 {
-    let got = put_parts(s, n, held, c, row);
+    let got = put_parts(s, n, held, known, c, row);
     match got {
         ListStep::Listed(next) => ListStep::Listed(next),
         ListStep::Refused(why) => {

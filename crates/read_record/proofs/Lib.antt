@@ -8,3 +8,4 @@ pub mod EndLaws
 pub mod TracksLaws
 pub mod PhasedLaws
 pub mod NamedLaws
+pub mod KnownLaws

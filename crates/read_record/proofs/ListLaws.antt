@@ -4,7 +4,7 @@ use mathlib.Core.Path.{_≡_, refl, _∙_}
 use Prim.Native.Nat.{ℕ, _≤_, _<_}
 use native.Mathlib.Omega.{arith}
 use mathlib.Core.List.{List, _++_, map}
-use lib.ListN.{getD, length, take, drop, replicate, length-map, length-replicate, getD-replicate}
+use lib.ListN.{getD, length, take, drop, replicate, length-map, length-replicate}
 use lib.Seq.{take-at}
 use mir.Syntax.{w8}
 use mir.Val.{Fits}
@@ -12,7 +12,7 @@ use Rattle.format.specs.declared.Refusal.{Refusal}
 use Rattle.format.specs.Base.{Out, ok, refused, bind, map-out}
 use Rattle.format.specs.Packed.{one, read-packed}
 use Rattle.format.specs.Difflist.{Entry, number-width, read-list}
-use Rattle.format.specs.Track.{against-category, sparse, rule, off-anchor, off-category, apply, read-listed, read-kind, track-categories}
+use Rattle.format.specs.Track.{against-category, sparse, rule, off-category, apply, read-listed, read-kind, track-categories}
 use Rattle.base_cursor.specs.declared.Cursor.{Cursor}
 use Rattle.head_index.specs.NumbersAt.{digits-at}
 use Rattle.read_packed.specs.Unpacked.{packed-step, array-at, unpacked, unpacked-one, of-pair, unpack-left}
@@ -23,11 +23,11 @@ use Rattle.read_packed.proofs.CheckLaws.{Accepted, was-accepted}
 use Rattle.read_list.specs.Entries.{ListLeft, list-left}
 use Rattle.read_list.specs.Listed.{may-hold, list-replied, listed}
 use Rattle.read_list.specs.declared.ListRule.{ListRule}
-use Rattle.read_list.specs.declared.ListRule.the-variants.{OffPair, OffRow}
+use Rattle.read_list.specs.declared.ListRule.the-variants.{OffPair}
 use Rattle.read_list.specs.declared.ListStep.{ListStep}
 use Rattle.read_list.specs.declared.ListStep.the-variants.{Refused}
 use Rattle.read_record.specs.Rows.{wiped, stored, kind-categories, tracked, off-both, pair-categories}
-use Rattle.read_record.proofs.RuleLaws.{list-same}
+use Rattle.read_record.proofs.RuleLaws.{list-same, off-one}
 use Rattle.read_record.proofs.RowLaws.{rest-of, zero-rest}
 
 -- `first` is what the list is against
@@ -51,11 +51,7 @@ module _ (l : List ℕ) (start n category : ℕ) (row mid : List ℕ) (filled : 
   sparse-through (ok es left) = refl
   sparse-through (refused why) = refl
 
-  -- to be off the row is to be off the category that it was filled with
-  off-filled : (sample value : ℕ) → sample < n → off-anchor (replicate n category) sample value ≡ off-category category sample value
-  off-filled sample value h = rw (getD-replicate n sample category 1 h)
-
-  pub sparse-stored : (r : ListStep) (new : List ℕ) → list-left r new ≡ listed OffRow n l start mid
+  pub sparse-stored : (r : ListStep) (new : List ℕ) → list-left r new ≡ listed (OffPair category category) n l start mid
       → wiped n (list-left r new) ≡ tracked (against-category category) n l start row
   unfolding kind-categories read-kind read-listed
   sparse-stored r new e =
@@ -63,9 +59,9 @@ module _ (l : List ℕ) (start n category : ℕ) (row mid : List ℕ) (filled : 
       let d : drop n mid ≡ drop n row = rw filled (rest-of n (replicate n category) row (length-replicate n category)) in
       rw (
         sparse-through (read-list (rule n (off-category category)) (number-width n) (length l) (drop start l)),
-        ← list-same n (off-anchor (replicate n category)) (off-category category) off-filled (number-width n) (length l) (drop start l),
+        ← list-same n (off-both category category) (off-category category) (λ s v i. off-one category s v) (number-width n) (length l) (drop start l),
       )
-      (list-stored l start n OffRow row mid (replicate n category) t d (list-left r new) e)
+      (list-stored l start n (OffPair category category) row mid (replicate n category) t d (list-left r new) e)
 
 -- ---- kind 1, after its pair code
 

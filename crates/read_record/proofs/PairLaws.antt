@@ -32,7 +32,7 @@ module _ (l : List ℕ) (n : ℕ) (row : List ℕ) (c : PairCode) where
   listed-through bits (ok es left) = rw (map-map (category-of c) bit-set bits)
   listed-through bits (refused why) = refl
 
-  bits-through : (m : Out (List ℕ))
+  pub bits-through : (m : Out (List ℕ))
       → map-out (track-categories n (take n row)) (bind m (λ bits left₂. read-listed (one-bit c (map bit-set bits)) (length l) n (off-pair c) left₂))
       ≡ bind m (λ bits left. map-out (λ es. apply es (map (of-pair (pair c .lower) (pair c .higher)) bits))
       (read-list (rule n (off-both (pair c .lower) (pair c .higher))) (number-width n) (length l) left))

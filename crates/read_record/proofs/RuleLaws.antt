@@ -3,7 +3,7 @@
 use mathlib.Core.Path.{_≡_, refl, ap}
 use Prim.Native.Nat.{ℕ, zero, suc, _+_, _-_, _<_}
 use native.Mathlib.Omega.{arith}
-use mathlib.Core.Bool.{Bool}
+use mathlib.Core.Bool.{Bool, true, false, not, _||_}
 use mathlib.Core.List.{List, [], _∷_}
 use lib.ListN.{length}
 use lib.Dec.{leb, eqb}
@@ -13,8 +13,9 @@ use Rattle.format.specs.Varint.{read-varint}
 use Rattle.format.specs.Numbers.{read-numbers, read-bytes}
 use Rattle.format.specs.Packed.{two, read-packed}
 use Rattle.format.specs.Difflist.{Entry, Parts, groups, read-entry, read-entries, read-first, read-parts, read-list}
-use Rattle.format.specs.Track.{rule}
+use Rattle.format.specs.Track.{rule, off-category}
 use Rattle.format.proofs.Rules.{split}
+use Rattle.read_record.specs.Rows.{off-both}
 
 pub bind-same : {A B : Type 0} (m : Out A) (f g : A → List ℕ → Out B) → ((a : A) (left : List ℕ) → f a left ≡ g a left) → bind m f ≡ bind m g
 bind-same (ok a left) f g h = h a left
@@ -58,3 +59,11 @@ module _ (n : ℕ) (may may′ : ℕ → ℕ → Bool) (agree : (sample value : 
       (bind-same (read-numbers end w (groups L) left) _ _ (λ hs left₁.
       bind-same (read-bytes end (groups L - 1) left₁) _ _ (λ zs left₂.
       bind-same (read-packed end two L left₂) _ _ (λ vs left₃. first-same _ hs zs vs left₃)))))
+
+-- the samples outside a category: off both of two that are the same
+pub off-one : (category sample value : ℕ) → off-both category category sample value ≡ off-category category sample value
+off-one category sample value = either (eqb value category)
+  where
+    either : (b : Bool) → not (b || b) ≡ not b
+    either true = refl
+    either false = refl

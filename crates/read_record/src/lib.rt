@@ -21,7 +21,7 @@ ghost use Rattle.format.specs.Phase.{heterozygous-count, read-phase-track};
 ghost use Rattle.format.specs.Body.{kind-of, type-phased};
 ghost use Rattle.format.specs.Limits.{most-samples};
 ghost use Rattle.format.specs.Track.{array, paired, against-anchor, against-category, kind};
-ghost use Rattle.read_list.specs.Entries.{list-left};
+ghost use Rattle.read_list.specs.Entries.{list-left, Lists};
 ghost use Rattle.read_record.specs.Rows.{wiped, stored, pair-categories, tracked, turned};
 ghost use Rattle.read_list.specs.Checked.{stepped};
 ghost use Rattle.read_record.specs.Recorded.{whole-record, end-checked, tracks-read, record-left, recorded};
@@ -40,8 +40,17 @@ fn read_array(s: &[u8], c: Cursor, n: usize, row: &mut [u8]) -> ListStep
 }
 
 // "a bit per sample (set: the higher category of the pair), then a list of pairs for samples in the other two categories"
-fn read_bits(s: &[u8], c: Cursor, n: usize, lower: u8, higher: u8, row: &mut [u8]) -> ListStep
+fn read_bits(
+    s: &[u8],
+    c: Cursor,
+    n: usize,
+    lower: u8,
+    higher: u8,
+    known: bool,
+    row: &mut [u8],
+) -> ListStep
     requires { ⌜ (c .at ≤ length (now s)) × (n ≤ most-samples) × (n ≤ length (now row)) ⌝ }
+    requires { ⌜ (known ≡ true → Lists (stored (length (now s)) n (now row) (pair-categories lower higher n (now s) (c .at)))) ⌝ }
     ensures { λ r. ⌜ wiped n (list-left r (now (row .exit)))
         ≡ stored (length (now (s .entry))) n (now (row .entry)) (pair-categories lower higher n (now (s .entry)) (c .at)) ⌝ }
 {
@@ -49,14 +58,15 @@ fn read_bits(s: &[u8], c: Cursor, n: usize, lower: u8, higher: u8, row: &mut [u8
     match got {
         PackedStep::Refused(why) => ListStep::Refused(why),
         PackedStep::Next(next) => {
-            read_list::put_list(s, n, ListRule::OffPair(lower, higher), next, row)
+            read_list::put_list(s, n, ListRule::OffPair(lower, higher), known, next, row)
         }
     }
 }
 
 // "Kind 1: a pair code". 14, "pair code unknown", at "that byte".
-fn read_pair(s: &[u8], c: Cursor, n: usize, row: &mut [u8]) -> ListStep
+fn read_pair(s: &[u8], c: Cursor, n: usize, known: bool, row: &mut [u8]) -> ListStep
     requires { ⌜ (c .at ≤ length (now s)) × (n ≤ most-samples) × (n ≤ length (now row)) ⌝ }
+    requires { ⌜ (known ≡ true → Lists (tracked paired n (now s) (c .at) (now row))) ⌝ }
     ensures { λ r. ⌜ wiped n (list-left r (now (row .exit))) ≡ tracked paired n (now (s .entry)) (c .at) (now (row .entry)) ⌝ }
 {
     let got = c.byte(s);
@@ -66,7 +76,9 @@ fn read_pair(s: &[u8], c: Cursor, n: usize, row: &mut [u8]) -> ListStep
             let found = base_pairs::pair_of(code);
             match found {
                 PairFound::Unknown => ListStep::Refused(refusal_at(14, c.at)),
-                PairFound::Known(pair) => read_bits(s, next, n, pair.lower, pair.higher, row),
+                PairFound::Known(pair) => {
+                    read_bits(s, next, n, pair.lower, pair.higher, known, row)
+                }
             }
         }
     }
@@ -88,36 +100,45 @@ fn read_leaning(s: &[u8], c: Cursor, n: usize, inverted: bool, row: &mut [u8]) -
     requires { ⌜ (c .at ≤ length (now s)) × (n ≤ most-samples) × (n ≤ length (now row)) ⌝ }
     ensures { λ r. ⌜ wiped n (list-left r (now (row .exit))) ≡ tracked (against-anchor inverted) n (now (s .entry)) (c .at) (now (row .entry)) ⌝ }
 {
-    let got = read_list::put_list(s, n, ListRule::OffRow, c, row);
+    let got = read_list::put_list(s, n, ListRule::OffRow, false, c, row);
     exchange_row_if(row, n, inverted);
     got
 }
 
-// "Kinds 4, 6, 7: a list of the samples outside category 0, 2, 3": against a row in that category.
-fn read_sparse(s: &[u8], c: Cursor, n: usize, category: u8, row: &mut [u8]) -> ListStep
+// "Kinds 4, 6, 7: a list of the samples outside category 0, 2, 3": put into a row in that category, and off it, so that no value asks the row.
+fn read_sparse(s: &[u8], c: Cursor, n: usize, category: u8, known: bool, row: &mut [u8]) -> ListStep
     requires { ⌜ (c .at ≤ length (now s)) × (n ≤ most-samples) × (n ≤ length (now row)) ⌝ }
+    requires { ⌜ (known ≡ true → Lists (tracked (against-category category) n (now s) (c .at) (now row))) ⌝ }
     ensures { λ r. ⌜ wiped n (list-left r (now (row .exit))) ≡ tracked (against-category category) n (now (s .entry)) (c .at) (now (row .entry)) ⌝ }
 {
     base_rows::fill(row, n, category);
-    read_list::put_list(s, n, ListRule::OffRow, c, row)
+    read_list::put_list(s, n, ListRule::OffPair(category, category), known, c, row)
 }
 
-// The main track of the kind that has the number; the header lets only these kinds through (8).
-pub fn read_track(s: &[u8], c: Cursor, n: usize, number: u8, row: &mut [u8]) -> ListStep
+// The main track of the kind that has the number; the header lets only these kinds through (8). `known` tells that it was accepted before.
+pub fn read_track(
+    s: &[u8],
+    c: Cursor,
+    n: usize,
+    number: u8,
+    known: bool,
+    row: &mut [u8],
+) -> ListStep
     requires { ⌜ (c .at ≤ length (now s)) × (n ≤ most-samples) × (n ≤ length (now row)) ⌝ }
     requires { ⌜ (number < 8) × (number ≡ 5 → ⊥) ⌝ }
+    requires { ⌜ (known ≡ true → Lists (tracked (kind number) n (now s) (c .at) (now row))) ⌝ }
     ensures { λ r. ⌜ wiped n (list-left r (now (row .exit))) ≡ tracked (kind number) n (now (s .entry)) (c .at) (now (row .entry)) ⌝ }
 {
     if number == 0 {
         return read_array(s, c, n, row);
     }
     if number == 1 {
-        return read_pair(s, c, n, row);
+        return read_pair(s, c, n, known, row);
     }
     if number < 4 {
         return read_leaning(s, c, n, number == 3, row);
     }
-    read_sparse(s, c, n, number - 4, row)
+    read_sparse(s, c, n, number - 4, known, row)
 }
 
 // 01, Replies: "Lastly 13". `got` is what the last track gave of a record that ends at `end`.
@@ -173,7 +194,7 @@ pub fn read_tracks(s: &[u8], c: Cursor, n: usize, record_type: u8, row: &mut [u8
     requires { ⌜ (kind-of record_type ≡ 5 → ⊥) ⌝ }
     ensures { λ r. ⌜ list-left r (now (row .exit)) ≡ tracks-read n record_type (now (s .entry)) (c .at) (now (row .entry)) ⌝ }
 {
-    let got = read_track(s, c, n, kind_of(record_type), row);
+    let got = read_track(s, c, n, kind_of(record_type), false, row);
     match got {
         ListStep::Refused(why) => {
             base_rows::clear(row, n);
@@ -206,7 +227,7 @@ pub fn read_body(s: &[u8], c: Cursor, n: usize, record_type: u8, row: &mut [u8])
 }
 
 // The phases of an accepted record of a type, whose tracks after the main one start at `c`, by its own row. Without a track all are unphased.
-fn put_after(s: &[u8], c: Cursor, n: usize, record_type: u8, row: &[u8], output: &mut [u8])
+pub fn put_after(s: &[u8], c: Cursor, n: usize, record_type: u8, row: &[u8], output: &mut [u8])
     requires { ⌜ AfterThere n record_type (now s) (c .at) (now row) ⌝ }
     requires { ⌜ (n ≤ length (now row)) × (n ≤ length (now output)) × (n ≤ most-samples) ⌝ }
     ensures { λ _. ⌜ now (output .exit) ≡ after-put n record_type (now (s .entry)) (c .at) (now (row .entry)) (now (output .entry)) ⌝ }

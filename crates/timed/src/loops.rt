@@ -73,7 +73,7 @@ pub extern "C" fn timed_exchange_row(row: &mut [u8], n: usize) {
     base_rows::exchange_row(row, n);
 }
 
-// The list at `at` of the file cut where its record ends; against the row, as in all kinds but 1.
+// The list at `at` of the file cut where its record ends; against the row, as in kinds 2 and 3.
 #[no_mangle]
 pub extern "C" fn timed_put_list(s: &[u8], at: usize, n: usize, row: &mut [u8]) -> usize {
     if at > s.len() {
@@ -85,7 +85,7 @@ pub extern "C" fn timed_put_list(s: &[u8], at: usize, n: usize, row: &mut [u8]) 
     if n > row.len() {
         return NOT_ASKED;
     }
-    match read_list::put_list(s, n, ListRule::OffRow, Cursor { at }, row) {
+    match read_list::put_list(s, n, ListRule::OffRow, false, Cursor { at }, row) {
         ListStep::Listed(next) => next.at,
         ListStep::Refused(_) => NOT_ASKED,
     }

@@ -14,8 +14,6 @@ read-spec =
     (λ c. search (read-laws, needs))
     (λ c. search (read-laws, needs))
     (λ c κs. search (read-laws, needs))
-    (λ c κs. search (read-laws, needs))
-    (λ c. search (read-laws, needs))
     (λ c. search (read-laws, needs))
     (λ c. search (read-laws, needs))
     (λ c. search (read-laws, needs))

@@ -1,6 +1,7 @@
 -- `flip_phase::read_standing` meets its contract.
 -- Assumes nothing.
 use borrow.Author.Needs.{needs}
+use Rattle.read_list.proofs.RunValues.{unsaid}
 use Rattle.flip_phase.proofs.MainLaws.{standing-laws}
 use Rattle.flip_phase.proofs.read_standing.Statement.{statement}
 use Rattle.flip_phase.proofs.read_standing.Tie as tie
@@ -11,7 +12,7 @@ read-standing-spec =
     (tie.spec
     (λ c. search (standing-laws, needs))
     (λ c κs. search (standing-laws, needs))
-    (λ c κs. search (standing-laws, needs))
+    (λ c κs. (search (standing-laws, needs), (search (standing-laws, needs), unsaid)))
     (λ c κs. search (standing-laws, needs))
     (λ c. search (standing-laws, needs))
     (λ c. search (standing-laws, needs))

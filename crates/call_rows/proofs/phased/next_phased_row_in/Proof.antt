@@ -1,7 +1,7 @@
 -- `call_rows::phased::next_phased_row_in` meets its contract.
 -- Assumes nothing.
 use borrow.Author.Needs.{needs}
-use Rattle.head_blocks.proofs.Answers.{holds}
+use Rattle.head_blocks.proofs.Answers.{holds, fails}
 use Rattle.call_rows.proofs.PhasedLaws.{next-phased-laws, phased-ready, output-there, phases-there}
 use Rattle.call_rows.proofs.phased.next_phased_row_in.Statement.{statement}
 use Rattle.call_rows.proofs.phased.next_phased_row_in.Tie as tie
@@ -23,7 +23,10 @@ next-phased-row-in-spec =
     (λ c. search (next-phased-laws, needs))
     (λ c. search (next-phased-laws, needs))
     (λ c. search (next-phased-laws, needs))
-    (λ c κs. (search (phased-ready, needs), search (output-there, needs), search (phases-there, needs)))
+    (λ c κs. (
+      (search (phased-ready, needs), search (output-there, needs), search (phases-there, needs)),
+      search (fails, needs),
+    ))
     (λ c. search (next-phased-laws, needs))
     (λ c. search (next-phased-laws, needs))
     (λ c. search (next-phased-laws, needs))
