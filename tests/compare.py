@@ -28,6 +28,7 @@ from pgen_phase_bytes import phase_sweeps
 from pgen_phase_cases import phase_limits
 from pgen_row_cases import GREATEST_STEPS, limit_walks
 from pgen_row_damage import row_damage_cases
+from pgen_step_cases import step_cases
 from phase_laws import check_phase_examples, check_phase_laws
 from probe_cases import BAD_ENDS, all_cases, cases_of_phases, cases_of_variants, fresh_cases, input_bytes, line_of, reply_to
 from program_laws import check_examples, check_flips, check_rows, row_line, without_work_area
@@ -186,6 +187,13 @@ def fresh_limits(tally, seed):
     check_long_listings(tally, listed, seed)
 
 
+def fresh_steps(tally, seed):
+    """Lists with steps of chosen byte sizes, with other files for each seed: many have some thousand samples, so a run makes them once too."""
+    cases = list(step_cases(random.Random(f"steps {seed}")))
+    data, want = joined(cases)
+    tally.same(f"steps of lists, seed {seed}", run("probe", data), want, len(cases))
+
+
 def fresh(tally, seed):
     """Fresh cases."""
     data, want = joined(fresh_cases(seed, FRESH_CASES))
@@ -225,6 +233,7 @@ def main():
     first = seed = time.time_ns() % 10**9 if words.seed is None else words.seed
     print(f"fresh cases from seed {first} on", flush=True)
     fresh_limits(tally, first)
+    fresh_steps(tally, first)
     while seed == first or (words.seed is None and time.monotonic() < end):
         fresh(tally, seed)
         seed += 1

@@ -116,7 +116,11 @@ def make_record(rng, N, kind, anchor, count=None):
         categories = choose_categories(rng, N)
         return RecordParts(0, categories, pack(categories, 2))
     count = choose_count(rng, N) if count is None else count
-    samples = choose_samples(rng, N, count)
+    return record_of_samples(rng, N, kind, anchor, choose_samples(rng, N, count))
+
+
+def record_of_samples(rng, N, kind, anchor, samples):
+    """A record of this kind, whose list has these samples."""
     if kind == 1:
         return make_pair_record(rng, N, samples, rng.random() < 0.7)
     under = bytes([BASES[kind]]) * N if kind in BASES else anchor

@@ -6,6 +6,7 @@ pub mod LoopLaws
 pub mod CheckLaws
 pub mod ShortWalks
 pub mod KnownWalks
+pub mod FourLaws
 pub mod RunValues
 pub mod RunLaws
 pub mod RunWalks

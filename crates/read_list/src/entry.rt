@@ -5,6 +5,7 @@ use crate::ListRule;
 use crate::ListStep;
 use crate::State;
 use crate::Walk;
+use crate::known::put_known_steps;
 use crate::run::lesser;
 use crate::run::walked;
 use base_cursor::Cursor;
@@ -21,7 +22,7 @@ ghost use Rattle.format.specs.Difflist.{number-width};
 ghost use Rattle.base_cursor.specs.Steps.{varint-at};
 ghost use Rattle.read_list.specs.declared.EntryStep.the-variants.{On};
 ghost use Rattle.read_list.specs.Room.{Room, EntryReady};
-ghost use Rattle.read_list.specs.Walked.{Putting, Accepted, PutKnown};
+ghost use Rattle.read_list.specs.Walked.{Putting};
 ghost use Rattle.read_list.specs.Entries.{allows, Against, take-head, take-step, next-head, check-value};
 ghost use Rattle.read_list.specs.Entries.{turn, put-entry, list-left, Lists, put-entries};
 
@@ -201,37 +202,6 @@ fn put_short_steps(
         }
         row[sample] = value;
         last = sample;
-        here = next;
-        done = done + 1;
-    }
-    walked(first, count, done, last, here)
-}
-
-// The same of a list that was accepted before: each test would hold.
-fn put_known_steps(
-    s: &[u8],
-    n: usize,
-    values: usize,
-    first: State,
-    count: usize,
-    row: &mut [u8],
-) -> Walk
-    requires { ⌜ Room (now s) n values count first ⌝ }
-    requires { ⌜ n ≤ length (now row) ⌝ }
-    requires { ⌜ Accepted (now s) n values count first (now row) ⌝ }
-    ensures { λ r. ⌜ PutKnown (now (s .entry)) n values count first (now (row .entry)) (now (row .exit)) (r .st) (r .more) ⌝ }
-{
-    let passed = first.passed;
-    let least = lesser(first.room, count);
-    let mut here = first.at;
-    let mut last = first.last;
-    let mut done = 0;
-    while done < least {
-        let ShortStep::Short(step, next) = here.short(s) else {
-            break;
-        };
-        last = last + step;
-        row[last] = read_packed::two_bits(s, values, passed + done);
         here = next;
         done = done + 1;
     }

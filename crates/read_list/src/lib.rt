@@ -18,6 +18,7 @@ ghost use Rattle.read_list.specs.Listed.{listed};
 
 pub mod check;
 pub mod entry;
+pub mod known;
 pub mod run;
 pub mod values;
 

@@ -30,7 +30,7 @@ fn wide(byte: u8) -> u16
     byte as u16
 }
 
-fn as_step(byte: u8) -> usize
+pub fn as_step(byte: u8) -> usize
     ensures { λ r. ⌜ r ≡ byte ⌝ }
 {
     byte as usize
