@@ -1,11 +1,11 @@
--- What a list is against, sample by sample: what the code looks up is there, and it is the row, the pair's categories or the one category.
+-- What a list is against, sample by sample: what the code looks up is there, and it is the row or the pair's categories.
 -- Assumes nothing.
 use mathlib.Core.Path.{_≡_, refl, ap}
 use Prim.Native.Nat.{ℕ, zero, suc, _+_, _/_, _≤_, _<_}
 use native.Mathlib.Omega.{arith}
 use native.Mathlib.Numerals.{add-one}
 use mathlib.Core.List.{List, _∷_, map}
-use lib.ListN.{getD, length, take, drop, replicate}
+use lib.ListN.{getD, length, take, drop}
 use lib.Seq.{drop-cons}
 use Rattle.format.specs.Packed.{one}
 use Rattle.head_index.specs.NumbersAt.{digits-at}
@@ -15,7 +15,7 @@ use Rattle.read_list.specs.Entries.{allows, Against}
 use Rattle.read_list.specs.declared.ListRule.the-variants.{OffPair, OffRow}
 use Rattle.read_calls.specs.Bases.{rule-of, category-before, categories-before, base-row, BaseAt, BaseThere}
 use Rattle.read_calls.specs.declared.StoredBase.{StoredBase}
-use Rattle.read_calls.specs.declared.StoredBase.the-variants.{Row, Bits, Category}
+use Rattle.read_calls.specs.declared.StoredBase.the-variants.{Row, Bits}
 
 -- ---- the ways out of `rule_of`: `base` is what it was found to be
 
@@ -25,10 +25,7 @@ rule-row base e = rw e
 pub rule-bits : (base : StoredBase) (at lower higher : ℕ) → base ≡ Bits at lower higher → OffPair lower higher ≡ rule-of base
 rule-bits base at lower higher e = rw e
 
-pub rule-category : (base : StoredBase) (category : ℕ) → base ≡ Category category → OffPair category category ≡ rule-of base
-rule-category base category e = rw e
-
-pub ruleset rule-laws = (rule-row, rule-bits, rule-category)
+pub ruleset rule-laws = (rule-row, rule-bits)
 
 -- ---- the ways out of `category_before`
 
@@ -46,29 +43,23 @@ module _ (base : StoredBase) (l row : List ℕ) (sample : ℕ) where
     pub before-bits : (bit : ℕ) → bit ≡ number-in one l at sample → (x : ℕ) → x ≡ of-pair lower higher bit → x ≡ category-before base l row sample
     before-bits bit f x d = rw (e, ← f) d
 
-  pub before-category : (category : ℕ) → base ≡ Category category → category ≡ category-before base l row sample
-  before-category category e = rw e
-
-pub ruleset before-laws = (before-row-there, before-row, before-bit-there, before-bits, before-category)
+pub ruleset before-laws = (before-row-there, before-row, before-bit-there, before-bits)
 
 -- ---- one sample of the first n
 
 pub base-at : (base : StoredBase) (n : ℕ) (l row : List ℕ) (sample : ℕ) → BaseThere base n l row → sample < n → BaseAt base l row sample
 base-at Row n l row sample h i = omega arith
 base-at (Bits at lower higher) n l row sample h i = omega arith
-base-at (Category category) n l row sample h i = tt
 
 pub base-against : (base : StoredBase) (n : ℕ) (l row : List ℕ) → BaseThere base n l row → Against (rule-of base) n row
 base-against Row n l row h = h
 base-against (Bits at lower higher) n l row h = tt
-base-against (Category category) n l row h = tt
 
--- a list off a pair asks no row, and the others have there what they are against
+-- a list off a pair asks no row, and the other has there what it is against
 pub same-rule : (base : StoredBase) (l row : List ℕ) (sample value : ℕ)
     → allows (rule-of base) (getD row sample 0) value ≡ allows (rule-of base) (category-before base l row sample) value
 same-rule Row l row sample value = refl
 same-rule (Bits at lower higher) l row sample value = refl
-same-rule (Category category) l row sample value = refl
 
 -- ---- all of them
 
@@ -77,6 +68,9 @@ module _ (base : StoredBase) (l row : List ℕ) where
   unfolding categories-before
   before-length sample zero = refl
   before-length sample (suc count) = ap suc (before-length (sample + 1) count)
+
+  pub base-long : (n : ℕ) → n ≤ length (base-row base n l row)
+  base-long n = omega (arith, before-length 0 n)
 
   pub before-at : (sample count j : ℕ) → j < count → getD (categories-before base l row sample count) j 0 ≡ category-before base l row (sample + j)
   unfolding categories-before
@@ -109,12 +103,3 @@ bits-from at lower higher l row k (suc count) =
 
 pub bits-are : (at lower higher n : ℕ) (l row : List ℕ) → base-row (Bits at lower higher) n l row ≡ map (of-pair lower higher) (digits-at one (drop at l) 0 n)
 bits-are at lower higher n l row = bits-from at lower higher l row 0 n
-
--- one category
-category-from : (category : ℕ) (l row : List ℕ) (k count : ℕ) → categories-before (Category category) l row k count ≡ replicate count category
-unfolding categories-before
-category-from category l row k zero = refl
-category-from category l row k (suc count) = ap (_∷_ category) (category-from category l row (k + 1) count)
-
-pub category-is : (category n : ℕ) (l row : List ℕ) → base-row (Category category) n l row ≡ replicate n category
-category-is category n l row = category-from category l row 0 n

@@ -28,13 +28,12 @@ use Rattle.read_list.proofs.WholeLaws.{put-not, put-none, put-unfit, put-fits, 
 use Rattle.read_list.proofs.EntriesAgree.{applied, cleared}
 use Rattle.read_list.proofs.ListAgrees.{list-agrees}
 use Rattle.read_list.proofs.Agrees.{getD-any}
-use Rattle.read_calls.specs.Bases.{rule-of, base-row}
+use Rattle.read_calls.specs.Bases.{base-row}
 use Rattle.read_calls.specs.Counted.{count-replied, counted, counted-left}
-use Rattle.read_calls.specs.declared.StoredBase.{StoredBase}
 use Rattle.read_calls.specs.declared.StoredBase.the-variants.{Row}
 use Rattle.read_calls.specs.declared.CallsStep.{CallsStep}
 use Rattle.read_calls.specs.declared.CallsStep.the-variants.{Counted, Refused}
-use Rattle.read_calls.proofs.BaseLaws.{before-length, row-is}
+use Rattle.read_calls.proofs.BaseLaws.{base-long, row-is}
 
 -- what is cleared after a refusal, and what is applied, are counted alike
 cleared-count : (n : ℕ) (o : ListLeft) → counted-left (cleared n o) ≡ counted-left o
@@ -47,13 +46,8 @@ unfolding counted-left
 applied-count end n row (ok es left) = refl
 applied-count end n row (refused why) = refl
 
-module _ (l : List ℕ) (at n : ℕ) (base : StoredBase) (row : List ℕ) (known : Known l) (a : at ≤ length l) where
-  abbrev held : ListRule
-  held = rule-of base
-
-  abbrev against : List ℕ
-  against = base-row base n l row
-
+-- `against` is what the list is against: n samples, or more
+module _ (l : List ℕ) (at n : ℕ) (held : ListRule) (against : List ℕ) (long : n ≤ length against) (known : Known l) (a : at ≤ length l) where
   abbrev whole : CallsStep
   whole = counted held against n l at
 
@@ -63,10 +57,10 @@ module _ (l : List ℕ) (at n : ℕ) (base : StoredBase) (row : List ℕ) (known
   count-agrees =
       sym (cleared-count n (put-parts held n l at against))
       ∙ ap counted-left
-      (list-agrees l (λ i. known i .fits) n held against against (λ j i. getD-any against j (omega (arith, before-length base l row 0 n))) at a)
+      (list-agrees l (λ i. known i .fits) n held against against (λ j i. getD-any against j (omega arith)) at a)
       ∙ applied-count (length l) n against (read-list (rule n (may-hold held against)) (number-width n) (length l) (drop at l))
 
-  -- the ways out of `count_list`: r is what `read_count` gave, d what `lay_parts` did
+  -- the ways out of a list that is counted: r is what `read_count` gave, d what `lay_parts` did
   module _ (r : CountStep) (e : r ≡ count-of (varint-at l at) n at) where
     pub count-not : (why : Refusal) → r ≡ count.Refused why → Refused why ≡ whole
     unfolding counted-left
@@ -86,7 +80,9 @@ module _ (l : List ℕ) (at n : ℕ) (base : StoredBase) (row : List ℕ) (known
             → o ≡ counted-left (put-entries m l n vals held st against) → o ≡ whole
         count-fits vals st p o g = g ∙ ap counted-left (put-fits l at n held against r e m c q z d f vals st p _ refl) ∙ count-agrees
 
-pub ruleset count-list-laws = (count-not, count-none, count-unfit, count-fits, count-inside, count-few, count-some, laid-room)
+pub ruleset parts-laws = (count-not, count-none, count-unfit, count-inside, count-few, count-some)
+
+pub ruleset count-list-laws = (parts-laws, base-long, laid-room)
 
 -- ---- the way out of `count_leaning`
 

@@ -1,19 +1,21 @@
 -- What each way out of the counts of a main track says: under a pair code, and by the kind's number.
 -- Assumes nothing.
 use mathlib.Core.Path.{_≡_, refl, sym, ap, _∙_}
-use Prim.Native.Nat.{ℕ, zero, suc, _-_, _≤_, _<_}
+use Prim.Native.Nat.{ℕ, _-_, _≤_, _<_}
+use native.Mathlib.Omega.{arith}
 use mathlib.Core.Bool.{Bool, true, false}
 use mathlib.Core.List.{List, [], _∷_, map}
 use lib.ListN.{length, take, drop, replicate}
 use lib.Dec.{eqb}
+use borrow.Author.Tests.{ne-eqb}
 use Rattle.format.specs.declared.Refusal.{Refusal}
-use Rattle.format.specs.Base.{pick, Out, ok, refused, refusal, bind, map-out}
+use Rattle.format.specs.Base.{Out, ok, refused, refusal, bind, map-out}
 use Rattle.format.specs.Packed.{one, two, read-packed}
 use Rattle.format.specs.Difflist.{Entry, number-width, read-list}
 use Rattle.format.specs.PairCode.{PairCode, pair, category-of, found}
 use Rattle.format.specs.Track.{array, paired, kind, leans-kind, leans, plain, one-bit, leaning, sparse, apply, read-pair-code}
 use Rattle.format.specs.Track.{rule, off-pair, off-anchor, off-category, bit-set, read-listed, read-kind}
-use Rattle.format.specs.Phase.{heterozygous, heterozygous-count}
+use Rattle.format.specs.Phase.{heterozygous}
 use Rattle.format.specs.declared.Pair.{Pair}
 use Rattle.format.specs.declared.PairFound.{PairFound}
 use Rattle.format.specs.declared.PairFound.the-variants.{Known, Unknown}
@@ -28,13 +30,10 @@ use Rattle.read_record.specs.Rows.{off-both}
 use Rattle.read_record.proofs.RuleLaws.{list-same, off-one}
 use Rattle.read_record.proofs.CodeLaws.{code-inside, under-code, UnderCode, code-missing, code-unknown, code-known}
 use Rattle.read_record.proofs.BodyLaws.{leaning-kind, sparse-kind}
-use Rattle.read_calls.specs.Bases.{base-row}
 use Rattle.read_calls.specs.Counted.{count-replied, counted}
 use Rattle.read_calls.specs.Tracks.{track-told, track-counted, bits-told, bits-counted}
-use Rattle.read_calls.specs.declared.StoredBase.the-variants as base
 use Rattle.read_calls.specs.declared.CallsStep.{CallsStep}
 use Rattle.read_calls.specs.declared.CallsStep.the-variants.{Refused}
-use Rattle.read_calls.proofs.BaseLaws.{category-is}
 
 -- ---- kind 1
 
@@ -81,17 +80,6 @@ pub ruleset pair-laws = (code-inside, no-code, unknown-code, known-code)
 pub leaner-row : (n number : ℕ) (row : List ℕ) → (leans number ≡ true → n ≤ length row) → (number ≡ 0 → ⊥) → (number ≡ 1 → ⊥) → number < 4 → n ≤ length row
 leaner-row n number row h p q g = h (ap leans-kind (leaning-kind number p q g))
 
--- H of samples that are all in one category
-alike-count : (n category : ℕ) → heterozygous-count (replicate n category) ≡ pick (heterozygous category) n 0
-unfolding heterozygous-count
-alike-count n category = either (heterozygous category) n refl
-  where
-    either : (b : Bool) (n : ℕ) → heterozygous category ≡ b → heterozygous-count (replicate n category) ≡ pick b n 0
-    either true zero e = refl
-    either true (suc n) e = simp e (ap suc (either true n e))
-    either false zero e = refl
-    either false (suc n) e = simp e (either false n e)
-
 module _ (l : List ℕ) (start n number : ℕ) (row : List ℕ) (r : CallsStep) where
   pub of-plain : number ≡ 0 → r ≡ track-counted array n l start [] → r ≡ track-counted (kind number) n l start row
   unfolding track-counted read-kind
@@ -125,7 +113,7 @@ module _ (l : List ℕ) (start n number : ℕ) (row : List ℕ) (r : CallsStep) 
       through inverted (ok es left) = rw (heterozygous-exchange inverted (apply es (take n row))) refl
 
   pub of-sparse : 4 ≤ number → number < 8 → (number ≡ 5 → ⊥)
-      → r ≡ counted (OffPair (number - 4) (number - 4)) (base-row (base.Category (number - 4)) n l row) n l start
+      → r ≡ counted (OffPair (number - 4) (number - 4)) (replicate n (number - 4)) n l start
       → r ≡ track-counted (kind number) n l start row
   unfolding counted track-counted read-kind read-listed
   of-sparse a h z g =
@@ -134,16 +122,15 @@ module _ (l : List ℕ) (start n number : ℕ) (row : List ℕ) (r : CallsStep) 
         sparse-kind number a h z,
         ← list-same n (off-both category category) (off-category category) (λ s v i. off-one category s v) (number-width n) (length l) (drop start l),
       )
-      (rw (category-is category n l row) at g
-      ∙ through category (read-list (rule n (off-both category category)) (number-width n) (length l) (drop start l)))
+      (g ∙ through category (read-list (rule n (off-both category category)) (number-width n) (length l) (drop start l)))
     where
       through : (category : ℕ) (m : Out (List Entry))
           → count-replied (length l) (replicate n category) m ≡ track-told (length l) n (take n row) (map-out (sparse category) m)
       through category (refused why) = refl
       through category (ok es left) = refl
 
-pub sparse-count : (l : List ℕ) (n category : ℕ) (row : List ℕ) (H : ℕ) → H ≡ pick (heterozygous category) n 0
-    → H ≡ heterozygous-count (base-row (base.Category category) n l row)
-sparse-count l n category row H e = rw (category-is category n l row, alike-count n category) e
+-- none of the categories 0, 2, 3 is heterozygous
+pub sparse-other : (number : ℕ) → 4 ≤ number → (number ≡ 5 → ⊥) → heterozygous (number - 4) ≡ false
+sparse-other number a z = ne-eqb (number - 4) 1 (λ e. z (omega arith))
 
-pub ruleset track-laws = (leaner-row, of-plain, of-paired, of-leaning, of-sparse, sparse-count)
+pub ruleset track-laws = (leaner-row, of-plain, of-paired, of-leaning, of-sparse, sparse-other)

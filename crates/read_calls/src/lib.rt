@@ -6,23 +6,32 @@ use base_cursor::Cursor;
 use format::PairFound;
 use format::Refusal;
 use format::refusal_at;
+use read_list::CountStep;
+use read_list::ListRule;
+use read_list::ListStep;
+use read_list::PartsStep;
 use read_list::State;
+use read_list::check::check_list;
+use read_list::lay_parts;
+use read_list::read_count;
 use read_packed::PackedStep;
 use read_packed::Width;
 use read_packed::check_array;
 use read_phase::heterozygous_count;
 use read_phase::ones_in;
 ghost use mathlib.Core.Path.{_≡_};
-ghost use mathlib.Core.Bool.{true};
+ghost use mathlib.Core.Bool.{true, false};
 ghost use mathlib.Core.List.{[]};
 ghost use Prim.Native.Nat.{_≤_, _<_};
-ghost use lib.ListN.{length};
+ghost use lib.ListN.{length, replicate};
 ghost use lib.Count;
 ghost use Rattle.format.specs.Base.{pick};
 ghost use Rattle.format.specs.Limits.{most-samples};
 ghost use Rattle.format.specs.Phase.{heterozygous};
 ghost use Rattle.format.specs.Track.{array, paired, kind, leans};
+ghost use Rattle.read_list.specs.declared.ListRule.the-variants.{OffPair};
 ghost use Rattle.read_calls.specs.Bytes.{four-calls, byte-calls};
+ghost use Rattle.read_calls.specs.Counted.{counted};
 ghost use Rattle.read_calls.specs.Tracks.{bits-counted, track-counted};
 
 pub mod list;
@@ -30,12 +39,11 @@ pub mod list;
 use crate::list::count_leaning;
 use crate::list::count_list;
 
-// What a list is against where it is counted: a row's categories; the categories of a pair, the lower and the higher, that the bits from a place on stand for;
-// one category.
+// What a list is against where it is walked to be counted: a row's categories; the categories of a pair, the lower and the higher, that the bits from a place
+// on stand for.
 pub enum StoredBase {
     Row,
     Bits(usize, u8, u8),
-    Category(u8),
 }
 
 // The cursor after a main track or a list, with H of the row that it makes, or a refusal.
@@ -132,6 +140,39 @@ fn count_pair(s: &[u8], c: Cursor, n: usize) -> CallsStep
     }
 }
 
+// "Kinds 4, 6, 7: a list of the samples outside category 0, 2, 3", of which none is heterozygous. So no listed sample was, and H is that of the list's values:
+// their bytes are counted as they stand, with no walk, once the list is accepted. (Their unused bits are then zero, which is no call to count.)
+fn count_sparse(s: &[u8], c: Cursor, n: usize, category: u8) -> CallsStep
+    requires { ⌜ (c .at ≤ length (now s)) × (n ≤ most-samples) × (heterozygous category ≡ false) ⌝ }
+    ensures { λ r. ⌜ r ≡ counted (OffPair category category) (replicate n category) n (now (s .entry)) (c .at) ⌝ }
+{
+    let listed = read_count(s, n, c);
+    match listed {
+        CountStep::Refused(why) => CallsStep::Refused(why),
+        CountStep::Of(m, next) => {
+            if m == 0 {
+                return CallsStep::Counted(next, 0);
+            }
+            let laid = lay_parts(s, n, m, next);
+            match laid {
+                PartsStep::Refused(why) => CallsStep::Refused(why),
+                PartsStep::Fits { values, first } => {
+                    // no row is looked at: the list is off a pair
+                    let got = check_list(s, n, ListRule::OffPair(category, category), c, &s[..0]);
+                    match got {
+                        ListStep::Refused(why) => CallsStep::Refused(why),
+                        ListStep::Listed(past) => {
+                            let steps = first.at;
+                            let end = steps.at;
+                            CallsStep::Counted(past, packed_calls(&s[values..end]))
+                        }
+                    }
+                }
+            }
+        }
+    }
+}
+
 // The main track of the kind that has the number: the cursor past it, with H of the record's own row, or a refusal. The row's first n bytes hold the anchor's
 // categories if it leans; no other kind looks at them.
 pub fn count_track(s: &[u8], c: Cursor, n: usize, number: u8, row: &[u8]) -> CallsStep
@@ -148,14 +189,5 @@ pub fn count_track(s: &[u8], c: Cursor, n: usize, number: u8, row: &[u8]) -> Cal
     if number < 4 {
         return count_leaning(s, n, c, row, heterozygous_count(row, n));
     }
-    // "Kinds 4, 6, 7: a list of the samples outside category 0, 2, 3"
-    let category = number - 4;
-    count_list(
-        s,
-        n,
-        StoredBase::Category(category),
-        c,
-        row,
-        alike_calls(category, n),
-    )
+    count_sparse(s, c, n, number - 4)
 }

@@ -38,7 +38,6 @@ fn rule_of(base: StoredBase) -> ListRule
     match base {
         StoredBase::Row => ListRule::OffRow,
         StoredBase::Bits(_, lower, higher) => ListRule::OffPair(lower, higher),
-        StoredBase::Category(category) => ListRule::OffPair(category, category),
     }
 }
 
@@ -50,7 +49,6 @@ fn category_before(s: &[u8], base: StoredBase, row: &[u8], sample: usize) -> u8
     match base {
         StoredBase::Row => row[sample],
         StoredBase::Bits(at, lower, higher) => of_pair(one_bit(s, at, sample), lower, higher),
-        StoredBase::Category(category) => category,
     }
 }
 

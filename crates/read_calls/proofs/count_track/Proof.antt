@@ -17,5 +17,4 @@ count-track-spec =
     (λ c κs. search (track-laws, needs))
     (λ c. search (track-laws, needs))
     (λ c κs. search (track-laws, needs))
-    (λ c κs. search (track-laws, needs))
     (λ c. search (track-laws, needs)))

@@ -15,6 +15,4 @@ category-before-spec =
     (λ c κs. search (before-laws, needs))
     (λ c. search (before-laws, needs))
     (λ c. search (before-laws, needs))
-    (λ c. search (before-laws, needs))
-    (λ c. search (before-laws, needs))
     (λ c. search (before-laws, needs)))

@@ -2,6 +2,7 @@
 -- Assumes nothing.
 use denote.Ref.{now}
 use borrow.Author.Needs.{needs}
+use Rattle.read_calls.proofs.BaseLaws.{base-long}
 use Rattle.read_calls.proofs.CountAgrees.{count-list-laws, count-fits}
 use Rattle.read_calls.proofs.list.count_list.Statement.{statement}
 use Rattle.read_calls.proofs.list.count_list.Tie as tie
@@ -29,5 +30,5 @@ count-list-spec =
     let r : tie.After-read-count = search in
     let k : tie.After-shared-slice-known = search in
     let s : tie.Start = search in
-    count-fits _ _ _ (s .args .base) (now (s .args .row)) (k .shared-slice-known .given) (s .pre .0 .0) _ (r .read-count .ensures) _ _
+    count-fits _ _ _ _ _ (base-long (s .args .base) _ (now (s .args .row)) _) (k .shared-slice-known .given) (s .pre .0 .0) _ (r .read-count .ensures) _ _
     (m .listed2 .given .1) (z .if1 .left) _ (d .lay-parts .ensures) _ _ (f .laid2 .given .1) _ (a .count-entries .ensures)))

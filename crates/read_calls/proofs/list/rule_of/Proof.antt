@@ -12,6 +12,4 @@ rule-of-spec =
     (λ c. search (rule-laws, needs))
     (λ c. search (rule-laws, needs))
     (λ c. search (rule-laws, needs))
-    (λ c. search (rule-laws, needs))
-    (λ c. search (rule-laws, needs))
     (λ c. search (rule-laws, needs)))
