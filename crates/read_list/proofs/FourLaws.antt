@@ -133,7 +133,7 @@ module _ {l : List ℕ} {at packed last : ℕ} {row₀ row : List ℕ} {sample r
   pub put-all : 4 ≤ j → (sample ≡ sample-after l at last 4) × (row ≡ values-put l at packed last 4 row₀)
   put-all h = let e : j ≡ 4 = omega (arith, g .inside) in (rw e at (g .sample-is), rw e at (g .row-is))
 
-pub ruleset put-four-laws = (put-first, put-inside, put-fits, put-below, put-next, put-all)
+pub ruleset four-entries-laws = (put-first, put-inside, put-fits, put-below, put-next, put-all)
 
 -- ---- four turns of the walk
 

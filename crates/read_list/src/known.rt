@@ -46,7 +46,7 @@ fn four_next(s: &[u8], at: usize, passed: usize, left: usize) -> bool
 }
 
 // Four entries, with steps of a byte each from `at` on, and their values in a byte: the last one's sample.
-fn put_four(s: &[u8], at: usize, packed: u8, last: usize, row: &mut [u8]) -> usize
+fn put_four_entries(s: &[u8], at: usize, packed: u8, last: usize, row: &mut [u8]) -> usize
     requires { ⌜ FourThere (now s) at last (now row) ⌝ }
     ensures { λ r. ⌜ (r ≡ sample-after (now (s .entry)) at last 4) × (now (row .exit) ≡ values-put (now (s .entry)) at packed last 4 (now (row .entry))) ⌝ }
 {
@@ -82,7 +82,7 @@ pub fn put_known_steps(
     while done < least {
         let at = here.at;
         if four_next(s, at, from + done, least - done) {
-            last = put_four(s, at, s[values + (from + done) / 4], last, row);
+            last = put_four_entries(s, at, s[values + (from + done) / 4], last, row);
             here = Cursor { at: at + 4 };
             done = done + 4;
         } else {

@@ -33,12 +33,12 @@ put-known-steps-spec =
     (λ c. search (walks-laws, fours-laws, needs))
     (λ c. search (walks-laws, fours-laws, needs))
     (λ c.
-    let p : tie.After-put-four Inv-loop μ-loop = search in
+    let p : tie.After-put-four-entries Inv-loop μ-loop = search in
     let f : tie.After-four-next Inv-loop μ-loop = search in
     let w : tie.At-loop Inv-loop μ-loop = search in
     let k : tie.After-shared-slice-known Inv-loop μ-loop = search in
     let begun : tie.Start Inv-loop μ-loop = search in
-    search (fours-on (w .loop .inv) (begun .pre .1 .1) (f .four-next .ensures), k .shared-slice-known .given, p .put-four .ensures, needs))
+    search (fours-on (w .loop .inv) (begun .pre .1 .1) (f .four-next .ensures), k .shared-slice-known .given, p .put-four-entries .ensures, needs))
     (λ c κs. search (walks-laws, fours-laws, needs))
     (λ c. search (walks-laws, fours-laws, needs))
     (λ c. search (walks-laws, fours-laws, needs))
