@@ -1,7 +1,7 @@
 -- What a read of phases replies and leaves, by what the opening and the record were found to be.
 -- Assumes nothing.
 use mathlib.Core.Path.{_≡_, sym, ap, _∙_, subst}
-use Prim.Native.Nat.{ℕ, min, _≤_}
+use Prim.Native.Nat.{ℕ, min}
 use mathlib.Core.List.{List, _++_}
 use lib.ListN.{length, drop, replicate}
 use native.Mathlib.Omega.{arith}

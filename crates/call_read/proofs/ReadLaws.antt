@@ -19,7 +19,7 @@ use Rattle.format.specs.Limits.{variants-to-a-block}
 use Rattle.format.specs.Body.{Body, body-categories}
 use Rattle.format.specs.Layout.{Layout}
 use Rattle.format.specs.File.{variant-as, read-variant}
-use Rattle.format.specs.Reply.{Read, verdict, refusal-of, given, emptied, work-after, samples-of, holds-row, read-left, read-as, read-call}
+use Rattle.format.specs.Reply.{Read, verdict, refusal-of, given, work-after, samples-of, holds-row, read-left, read-as, read-call}
 use Rattle.call_open.specs.Open.{open-at-out, OpenAt, OpeningAt}
 use Rattle.call_open.proofs.Callers.{ready-at, shut-at, through-at, holds-both, open-samples, samples-are, open-at-is}
 use Rattle.head_places.proofs.AcceptedLaws.{one-layout}

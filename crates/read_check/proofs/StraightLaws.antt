@@ -1,10 +1,10 @@
 -- A record that leans on none, checked and then read straight into an output, its phases too: each way out of the code.
 -- Assumes nothing.
-use mathlib.Core.Path.{_≡_, refl, sym, ap, _∙_}
+use mathlib.Core.Path.{_≡_, sym, ap, _∙_}
 use Prim.Native.Nat.{ℕ, _≤_}
 use native.Mathlib.Omega.{arith}
 use mathlib.Core.Bool.{true, false}
-use mathlib.Core.List.{List, [], _∷_, _++_}
+use mathlib.Core.List.{List, []}
 use lib.ListN.{getD, length, take, drop}
 use mir.Syntax.{w8}
 use mir.Val.{Fits as Bounded}
@@ -25,7 +25,7 @@ use Rattle.read_record.specs.Recorded.{AfterThere, after-put, phased-left, phas
 use Rattle.read_record.proofs.TracksLaws.{body-accepted}
 use Rattle.read_record.proofs.PhasedLaws.{tracks-there, phased-accepted}
 use Rattle.read_check.specs.Checked.{body-checked}
-use Rattle.read_check.specs.Straight.{own-as, untouched, straight-tracks, straight-replied, straight, straight-phased-replied, straight-phased}
+use Rattle.read_check.specs.Straight.{untouched, straight-tracks, straight-replied, straight, straight-phased-replied, straight-phased}
 
 -- ---- the record over what the output holds: it leans on none, so it is read alike over nothing
 

@@ -1,11 +1,10 @@
 -- One variant's categories given to an output: each way out of `copy_leaning` and `read_output`.
 -- Assumes nothing.
 use mathlib.Core.Path.{_≡_, refl, sym, ap, _∙_}
-use mathlib.Core.Bool.{Bool, true, false}
+use mathlib.Core.Bool.{Bool, false}
 use Prim.Native.Nat.{ℕ, _≤_}
 use mathlib.Core.List.{List, [], _++_}
 use lib.ListN.{length, take, drop, getD, replicate}
-use native.Mathlib.Omega.{arith}
 use Rattle.format.specs.declared.FileVariant.{FileVariant}
 use Rattle.format.specs.declared.Fields.{Fields}
 use Rattle.format.specs.declared.Refusal.{Refusal}
@@ -16,8 +15,8 @@ use Rattle.format.specs.Limits.{variants-to-a-block}
 use Rattle.format.specs.Body.{type-leans, Body, read-body, body-categories}
 use Rattle.format.specs.Variant.{next-variant}
 use Rattle.format.specs.Layout.{Layout, record-start}
-use Rattle.format.specs.Reply.{emptied, named-reply}
-use Rattle.format.specs.File.{type-of, variant-leans, read-over, over-as, variant-as, read-variant}
+use Rattle.format.specs.Reply.{named-reply}
+use Rattle.format.specs.File.{type-of, over-as, variant-as, read-variant}
 use Rattle.head_blocks.proofs.Sizes.{known-bytes}
 use Rattle.head_records.proofs.AcceptedLaws.{samples-are}
 use Rattle.head_places.specs.declared.Place.{Place}

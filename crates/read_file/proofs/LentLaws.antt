@@ -3,7 +3,7 @@
 use mathlib.Core.Path.{_≡_, refl, sym, ap, _∙_}
 use mathlib.Core.Bool.{Bool, true, false}
 use Prim.Native.Nat.{ℕ, _≤_}
-use mathlib.Core.List.{List, [], _++_}
+use mathlib.Core.List.{List, []}
 use lib.ListN.{length, take, drop, getD}
 use lib.Dec.{lit<}
 use native.Mathlib.Omega.{arith}
@@ -30,7 +30,7 @@ use Rattle.head_places.proofs.PartLaws.{part-inside}
 use Rattle.head_places.proofs.AcceptedLaws.{samples-few, below-in, located, anchored}
 use Rattle.read_record.specs.Recorded.{record-left, record-replied, recorded, named-left}
 use Rattle.read_record.proofs.BodyLaws.{reply-of, row-of}
-use Rattle.read_file.specs.Rows.{HasVariantRow, row-replied, anchor-left, AnchorRead}
+use Rattle.read_file.specs.Rows.{HasVariantRow, row-replied, AnchorRead}
 use Rattle.read_file.proofs.Cut.{body-is-bytes, kind-known, cut-end, cut-start, recorded-is}
 use Rattle.read_file.proofs.Replies.{RowRead, row-accepted, row-refused}
 

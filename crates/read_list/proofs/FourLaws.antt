@@ -4,22 +4,20 @@ use mathlib.Core.Path.{_≡_, refl, sym, ap, _∙_}
 use Prim.Native.Nat.{ℕ, zero, suc, _+_, _-_, _/_, _%_, _^_, _≤_, _<_}
 use native.Mathlib.Nat.{div-one, pow-zero, pow-suc, div-div-eq-div-mul}
 use native.Mathlib.Omega.{arith}
-use native.Mathlib.Numerals.{add-one}
-use mathlib.Core.Bool.{Bool, true, not}
+use mathlib.Core.Bool.{Bool, true}
 use mathlib.Core.List.{List}
 use lib.ListN.{getD, length, set, length-set}
 use lib.Seq.{getD-drop}
 use lib.Dec.{ltb}
-use mir.Syntax.{w8, w64}
+use mir.Syntax.{w64}
 use mir.Val.{Fits}
 use borrow.Author.Tests.{ltb-true}
 use borrow.Author.Count.{below-more}
 use Rattle.format.proofs.Rules.{split}
 use Rattle.head_index.specs.NumbersAt.{digit-at}
 use Rattle.read_packed.specs.Arrays.{number-in}
-use Rattle.base_cursor.specs.Steps.{cursor-at, short-at}
+use Rattle.base_cursor.specs.Steps.{cursor-at}
 use Rattle.base_cursor.specs.declared.Cursor.{Cursor}
-use Rattle.base_cursor.specs.declared.ShortStep.the-variants.{Short}
 use Rattle.base_cursor.proofs.ShortLaws.{short-one}
 use Rattle.read_list.specs.Entries.{value-at}
 use Rattle.read_list.specs.Walked.{Accepted}
@@ -27,7 +25,7 @@ use Rattle.read_list.specs.Fours.{Single, FourNext, FourThere, sample-af
 use Rattle.read_list.specs.declared.State.{State}
 use Rattle.read_list.proofs.NumberLaws.{Known}
 use Rattle.read_list.proofs.RunValues.{unsaid}
-use Rattle.read_list.proofs.KnownWalks.{Walks, walks-turn, walks-sample}
+use Rattle.read_list.proofs.KnownWalks.{Walks, walks-turn}
 
 -- ---- whether there are four
 

@@ -17,16 +17,14 @@ use Rattle.base_cursor.specs.Steps.{varint-at, short-at}
 use Rattle.base_cursor.specs.declared.Cursor.{Cursor}
 use Rattle.base_cursor.specs.declared.ShortStep.{ShortStep}
 use Rattle.base_cursor.specs.declared.ShortStep.the-variants.{Short}
-use Rattle.base_cursor.specs.declared.VarintStep.{VarintStep}
 use Rattle.base_cursor.specs.declared.VarintStep.the-variants as varint
 use Rattle.base_cursor.proofs.ShortLaws.{short-reads}
-use Rattle.read_list.specs.Entries.{value-at, allows, moved, take-step, bump, Turn, turn, put-value, ListLeft, Lists, go-on, put-entries}
+use Rattle.read_list.specs.Entries.{value-at, allows, moved, take-step, bump, turn, put-value, ListLeft, Lists, go-on, put-entries}
 use Rattle.read_list.specs.Room.{Room}
 use Rattle.read_list.specs.Walked.{Putting, Accepted, PutKnown}
 use Rattle.read_list.specs.Runs.{past}
 use Rattle.read_list.specs.declared.ListRule.{ListRule}
 use Rattle.read_list.specs.declared.State.{State}
-use Rattle.read_list.specs.declared.EntryStep.{EntryStep}
 use Rattle.read_list.specs.declared.EntryStep.the-variants as entry
 use Rattle.read_list.proofs.NumberLaws.{Known}
 use Rattle.read_list.proofs.SampleLaws.{is-step}

@@ -1,6 +1,6 @@
 -- A run: the flat sums of its steps, and what each way out of `run_of` says.
 -- Assumes nothing.
-use mathlib.Core.Path.{_≡_, refl, sym}
+use mathlib.Core.Path.{_≡_, refl}
 use Prim.Native.Nat.{ℕ, suc, _+_, _-_, _*_, _/_, _%_, _≤_, _<_}
 use native.Mathlib.Omega.{arith}
 use native.Mathlib.Numerals.{add-one}
@@ -8,10 +8,9 @@ use mathlib.Core.List.{List}
 use lib.ListN.{getD, length}
 use mir.Syntax.{w8, w16}
 use mir.Val.{Fits}
-use borrow.Author.Count.{below-more}
 use Rattle.format.proofs.Rules.{split}
 use Rattle.read_list.specs.Room.{Room}
-use Rattle.read_list.specs.Runs.{Step, one, two, Steps, none, further, InPlace, HighPart, RunReady, RunFrom, no-run}
+use Rattle.read_list.specs.Runs.{one, two, Steps, none, further, InPlace, HighPart, RunReady, RunFrom, no-run}
 use Rattle.read_list.specs.declared.StepRun.{StepRun}
 use Rattle.read_list.specs.declared.State.{State}
 use Rattle.read_list.proofs.NumberLaws.{Known}

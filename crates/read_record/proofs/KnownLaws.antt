@@ -1,6 +1,6 @@
 -- A track that was accepted before has a list that would be: what `read_bits`, `read_pair`, `read_sparse` and `read_track` owe where they hand on `known`.
 -- Assumes nothing.
-use mathlib.Core.Path.{_≡_, refl, sym, ap, _∙_, subst}
+use mathlib.Core.Path.{_≡_, refl, sym, subst}
 use Prim.Native.Nat.{ℕ, _≤_}
 use mathlib.Core.Bool.{Bool, true}
 use mathlib.Core.List.{List, _++_}

@@ -1,7 +1,7 @@
 -- A list put into a row whose first n bytes are known: kinds 1, 4, 6 and 7.
 -- Assumes nothing.
 use mathlib.Core.Path.{_≡_, refl, _∙_}
-use Prim.Native.Nat.{ℕ, _≤_, _<_}
+use Prim.Native.Nat.{ℕ, _≤_}
 use native.Mathlib.Omega.{arith}
 use mathlib.Core.List.{List, _++_, map}
 use lib.ListN.{getD, length, take, drop, replicate, length-map, length-replicate}

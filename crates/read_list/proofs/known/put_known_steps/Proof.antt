@@ -2,7 +2,6 @@
 -- Assumes nothing.
 use borrow.Author.Needs.{needs}
 use Prim.Native.Nat.{_-_}
-use borrow.Author.Count.{falls}
 use Rattle.read_list.proofs.KnownWalks.{Walks, walks-turn, walks-laws}
 use Rattle.read_list.proofs.FourLaws.{fours-on, fours-laws}
 use Rattle.read_list.proofs.known.put_known_steps.Statement.{statement}
