@@ -4,9 +4,9 @@ use mathlib.Core.Path.{_≡_, sym, ap, _∙_}
 use Prim.Native.Nat.{ℕ, _+_, _-_, _≤_, _<_}
 use native.Mathlib.Omega.{arith}
 use native.Mathlib.Decide.{ℕ-discrete}
-use mathlib.Core.List.{List, _++_, map, map-id}
+use mathlib.Core.List.{List, _++_, map}
 use lib.ListN.{getD, length, take, drop, length-drop}
-use lib.Seq.{take-at}
+use lib.Seq.{take-at, drop-at}
 use mir.Syntax.{w8}
 use mir.Val.{Fits}
 use borrow.Author.Tests.{eq-eqb, ne-eqb}
@@ -16,16 +16,15 @@ use Rattle.format.specs.Packed.{Bits, one, two, limit, packed, packed-size, rea
 use Rattle.format.proofs.Rules.{split, below-drop}
 use Rattle.format.proofs.PackedLaws.{ArePacked, packed-as-written, packed-length}
 use Rattle.head_index.specs.NumbersAt.{digits-at}
-use Rattle.head_index.proofs.ByIndex.{bytes-of}
+use Rattle.head_index.proofs.ByIndex.{digits-length, bytes-of}
 use Rattle.head_index.proofs.UnusedBits.{has-byte}
 use Rattle.base_cursor.specs.Steps.{cursor-at}
 use Rattle.base_cursor.specs.declared.Cursor.{Cursor}
 use Rattle.base_cursor.proofs.ByteLaws.{here}
-use Rattle.read_packed.specs.Arrays.{number-in, unused, store}
-use Rattle.read_packed.specs.Unpacked.{packed-step, array-at, UnpackLeft, unpack-left, unpacked, unpacked-two, unpacked-one, of-pair, pair-in}
+use Rattle.read_packed.specs.Arrays.{unused}
+use Rattle.read_packed.specs.Unpacked.{packed-step, array-at, UnpackLeft, unpack-left, unpacked, unpacked-two, unpacked-one, of-pair}
 use Rattle.read_packed.specs.declared.PackedStep.{PackedStep}
 use Rattle.read_packed.specs.declared.PackedStep.the-variants.{Next, Refused}
-use Rattle.read_packed.proofs.StoreLaws.{stored-first}
 use Rattle.read_packed.proofs.ReadsAt.{array-fits, array-unused, array-short}
 
 -- ---- each return of `check`: `size` and `x` are what the calls for the size and the unused bits gave
@@ -131,33 +130,31 @@ module _ (l : List ℕ) (at n : ℕ) (got : PackedStep) (e : got ≡ array-at tw
   unfolding unpacked-two
   two-refused = untouched two l at n got e (λ vs. vs) row
 
-  pub two-accepted : ((i : ℕ) → Fits w8 (getD l i 0)) → at ≤ length l → (end : Cursor) → got ≡ Next end → n ≤ length row → (new : List ℕ)
-      → new ≡ store (number-in two l at) n 0 row → unpack-left (Next end) new ≡ unpacked-two n l at row
+  pub two-accepted : ((i : ℕ) → Fits w8 (getD l i 0)) → at ≤ length l → (end : Cursor) → got ≡ Next end → (new : List ℕ)
+      → new ≡ digits-at two (drop at l) 0 n ++ drop n row → unpack-left (Next end) new ≡ unpacked-two n l at row
   unfolding unpacked-two
-  two-accepted known h end q room new f =
-      stored two l at n got e known h end q (λ vs. vs) row new (f ∙ stored-first (λ m. m) two l at n row room ∙ rw map-id)
+  two-accepted known h end q = stored two l at n got e known h end q (λ vs. vs) row
 
 module _ (l : List ℕ) (at n : ℕ) (got : PackedStep) (e : got ≡ array-at one n l at) (row : List ℕ) (lower higher : ℕ) where
   pub one-refused : (why : Refusal) → got ≡ Refused why → unpack-left (Refused why) row ≡ unpacked-one lower higher n l at row
   unfolding unpacked-one
   one-refused = untouched one l at n got e (map (of-pair lower higher)) row
 
-  pub one-accepted : ((i : ℕ) → Fits w8 (getD l i 0)) → at ≤ length l → (end : Cursor) → got ≡ Next end → n ≤ length row → (new : List ℕ)
-      → new ≡ store (pair-in lower higher l at) n 0 row → unpack-left (Next end) new ≡ unpacked-one lower higher n l at row
+  pub one-accepted : ((i : ℕ) → Fits w8 (getD l i 0)) → at ≤ length l → (end : Cursor) → got ≡ Next end → (mid new : List ℕ)
+      → mid ≡ digits-at one (drop at l) 0 n ++ drop n row → new ≡ map (of-pair lower higher) (take n mid) ++ drop n mid
+      → unpack-left (Next end) new ≡ unpacked-one lower higher n l at row
   unfolding unpacked-one
-  one-accepted known h end q room new f =
-      stored one l at n got e known h end q (map (of-pair lower higher)) row new (f ∙ stored-first (of-pair lower higher) one l at n row room)
+  one-accepted known h end q mid new o f =
+      let bits = digits-at one (drop at l) 0 n in
+      let t : take n mid ≡ bits = rw o (take-at bits (drop n row) n (digits-length one (drop at l) 0 n)) in
+      let d : drop n mid ≡ drop n row = rw o (drop-at bits (drop n row) n (digits-length one (drop at l) 0 n)) in
+      stored one l at n got e known h end q (map (of-pair lower higher)) row new (f ∙ rw (t, d))
 
 pub pair-lower : (lower higher bit : ℕ) → bit ≡ 0 → lower ≡ of-pair lower higher bit
 pair-lower lower higher bit e = simp (eq-eqb bit 0 e)
 
 pub pair-higher : (lower higher bit : ℕ) → (bit ≡ 0 → ⊥) → higher ≡ of-pair lower higher bit
 pair-higher lower higher bit e = simp (ne-eqb bit 0 e)
-
--- the category that number k of an array of bits stands for
-pub pair-number : (lower higher : ℕ) (l : List ℕ) (at k : ℕ) {bit x : ℕ} → bit ≡ number-in one l at k → x ≡ of-pair lower higher bit
-    → x ≡ pair-in lower higher l at k
-pair-number lower higher l at k e f = rw e at f
 
 pub ruleset unpack-laws = (array-room, two-refused, two-accepted, one-refused, one-accepted)
 

@@ -3,4 +3,3 @@ pub mod WidthLaws
 pub mod PutLaws
 pub mod ReadsAt
 pub mod CheckLaws
-pub mod PairLaws

@@ -1,6 +1,6 @@
 -- The numbers of one byte, spread over the bytes of a wider number, and a turn of each loop that stores them.
 -- Assumes nothing.
-use mathlib.Core.Path.{_≡_, sym, ap, _∙_}
+use mathlib.Core.Path.{_≡_, sym, _∙_}
 use Prim.Native.Nat.{ℕ, suc, _+_, _-_, _*_, _/_, _%_, _^_, _<_}
 use native.Mathlib.Omega.{arith}
 use native.Mathlib.Nat.{div-eq-of-lt-le, mod-eq-sub-div-mul}
@@ -12,21 +12,20 @@ use mir.Val.{Fits}
 use Rattle.format.specs.Packed.{Bits, one, two, limit, more}
 use Rattle.head_index.specs.NumbersAt.{digit-at}
 use Rattle.read_packed.specs.Arrays.{number-in, Spread, put}
-use Rattle.read_packed.specs.Unpacked.{of-pair, pair-in}
 use Rattle.read_packed.proofs.StoreLaws.{Storing, four-stored, stores-all, bytes-stored}
 
 -- four bytes made one number
-abbrev pub whole : ℕ → ℕ → ℕ → ℕ → ℕ
-whole a b c d = a + 256 * b + 65536 * c + 16777216 * d
-
 module _ (a b c d : ℕ) (p : a < 256) (q : b < 256) (r : c < 256) where
-  second : whole a b c d / 256 % 256 ≡ b
-  second = let e : whole a b c d / 256 ≡ b + 256 * c + 65536 * d = omega arith in rw e (omega arith)
+  abbrev whole : ℕ
+  whole = a + 256 * b + 65536 * c + 16777216 * d
 
-  third : whole a b c d / 65536 % 256 ≡ c
-  third = let e : whole a b c d / 65536 ≡ c + 256 * d = omega arith in rw e (omega arith)
+  second : whole / 256 % 256 ≡ b
+  second = let e : whole / 256 ≡ b + 256 * c + 65536 * d = omega arith in rw e (omega arith)
 
-  pub spread-out : Spread (whole a b c d) a b c d
+  third : whole / 65536 % 256 ≡ c
+  third = let e : whole / 65536 ≡ c + 256 * d = omega arith in rw e (omega arith)
+
+  pub spread-out : Spread whole a b c d
   spread-out = (omega arith, second, third, omega arith)
 
 -- number m of an array is number j of byte i
@@ -44,13 +43,13 @@ module _ (bits : Bits) (l : List ℕ) (v i : ℕ) where
       let r : m % per ≡ j = mod-eq-sub-div-mul m per ∙ rw d (omega arith) in
       rw (d, r, getD-drop v l i 0)
 
-  four-numbers : (g : ℕ → ℕ) (x j k : ℕ) → k ≡ per * i + j → j + 3 < per → Spread x (g (part j)) (g (part (j + 1))) (g (part (j + 2))) (g (part (j + 3)))
-      → let f : ℕ → ℕ = λ m. g (number-in bits l v m) in Spread x (f k) (f (k + 1)) (f (k + 2)) (f (k + 3))
-  four-numbers g x j k e h q = (
-    q .0 ∙ ap g (sym (number-is j k e (omega arith))),
-    q .1 ∙ ap g (sym (number-is (j + 1) (k + 1) (omega arith) (omega arith))),
-    q .2 ∙ ap g (sym (number-is (j + 2) (k + 2) (omega arith) (omega arith))),
-    q .3 ∙ ap g (sym (number-is (j + 3) (k + 3) (omega arith) (omega arith))),
+  four-numbers : (x j k : ℕ) → k ≡ per * i + j → j + 3 < per → Spread x (part j) (part (j + 1)) (part (j + 2)) (part (j + 3))
+      → let f = number-in bits l v in Spread x (f k) (f (k + 1)) (f (k + 2)) (f (k + 3))
+  four-numbers x j k e h q = (
+    q .0 ∙ sym (number-is j k e (omega arith)),
+    q .1 ∙ sym (number-is (j + 1) (k + 1) (omega arith) (omega arith)),
+    q .2 ∙ sym (number-is (j + 2) (k + 2) (omega arith) (omega arith)),
+    q .3 ∙ sym (number-is (j + 3) (k + 3) (omega arith) (omega arith)),
   )
 
 -- ---- a byte stored
@@ -67,29 +66,21 @@ module _ (l : List ℕ) (v full i : ℕ) (old row last : List ℕ) where
   quad-step s x new e g q h known =
       let y : b < 256 = known (v + i) .fits in
       let n : 4 * (i + 1) ≡ 4 * i + 4 = omega arith in
-      let t = four-numbers two l v i (λ m. m) x 0 (4 * i) (omega arith) (omega arith) (q .0 ∙ omega arith, q .1, q .2, q .3 ∙ omega arith) in
+      let t = four-numbers two l v i x 0 (4 * i) (omega arith) (omega arith) (q .0 ∙ omega arith, q .1, q .2, q .3 ∙ omega arith) in
       rw n (four-stored (number-in two l v) (4 * full) (4 * i) old row last s (omega arith) x new e g t)
 
-  module _ (lower higher : ℕ) where
-    abbrev g : ℕ → ℕ
-    g = of-pair lower higher
+  abbrev Octets : ℕ → List ℕ → Type 0
+  Octets k new = Storing (number-in one l v) (8 * full) k old new last
 
-    abbrev Octets : ℕ → List ℕ → Type 0
-    Octets k new = Storing (pair-in lower higher l v) (8 * full) k old new last
-
-    pub octet-step : Octets (8 * i) row → (x z : ℕ) (mid new : List ℕ) → new ≡ put mid (8 * i + 4) z → mid ≡ put row (8 * i) x
-        → length mid ≡ length row → length new ≡ length mid
-        → Spread x (g (b % 2)) (g (b / 2 % 2)) (g (b / 4 % 2)) (g (b / 8 % 2))
-        → Spread z (g (b / 16 % 2)) (g (b / 16 / 2 % 2)) (g (b / 16 / 4 % 2)) (g (b / 16 / 8 % 2)) → i < full → Octets (8 * (i + 1)) new
-    octet-step s x z mid new d e y k q r h =
-        let n : 8 * (i + 1) ≡ 8 * i + 4 + 4 = omega arith in
-        let e₀ : b % 2 ≡ b / 1 % 2 = omega arith in
-        let d₅ : b / 16 / 2 ≡ b / 32 = omega arith in
-        let d₆ : b / 16 / 4 ≡ b / 64 = omega arith in
-        let d₇ : b / 16 / 8 ≡ b / 128 = omega arith in
-        let t = four-numbers one l v i g x 0 (8 * i) (omega arith) (omega arith) (q .0 ∙ ap g e₀, q .1, q .2, q .3) in
-        let u = four-numbers one l v i g z 4 (8 * i + 4) (omega arith) (omega arith) (r .0, r .1 ∙ ap (λ (m : ℕ). g (m % 2)) d₅, r .2 ∙ ap (λ (m : ℕ). g (m % 2)) d₆, r .3 ∙ ap (λ (m : ℕ). g (m % 2)) d₇) in
-        let half : Octets (8 * i + 4) mid = four-stored (pair-in lower higher l v) (8 * full) (8 * i) old row last s (omega arith) x mid e y t in
-        rw n (four-stored (pair-in lower higher l v) (8 * full) (8 * i + 4) old mid last half (omega arith) z new d k u)
+  pub octet-step : Octets (8 * i) row → (x z : ℕ) (mid new : List ℕ) → new ≡ put mid (8 * i + 4) z → mid ≡ put row (8 * i) x
+      → length mid ≡ length row → length new ≡ length mid
+      → Spread x (b % 2) (b / 2 % 2) (b / 4 % 2) (b / 8 % 2) → Spread z (b / 16 % 2) (b / 16 / 2 % 2) (b / 16 / 4 % 2) (b / 16 / 8 % 2)
+      → i < full → Octets (8 * (i + 1)) new
+  octet-step s x z mid new d e g k q r h =
+      let n : 8 * (i + 1) ≡ 8 * i + 4 + 4 = omega arith in
+      let t = four-numbers one l v i x 0 (8 * i) (omega arith) (omega arith) (q .0 ∙ omega arith, q .1, q .2, q .3) in
+      let u = four-numbers one l v i z 4 (8 * i + 4) (omega arith) (omega arith) (r .0, r .1 ∙ omega arith, r .2 ∙ omega arith, r .3 ∙ omega arith) in
+      let half : Octets (8 * i + 4) mid = four-stored (number-in one l v) (8 * full) (8 * i) old row last s (omega arith) x mid e g t in
+      rw n (four-stored (number-in one l v) (8 * full) (8 * i + 4) old mid last half (omega arith) z new d k u)
 
 pub ruleset stored-laws = (stores-all, bytes-stored)

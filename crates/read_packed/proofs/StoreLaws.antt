@@ -4,28 +4,26 @@ use mathlib.Core.Path.{_≡_, refl, _∙_}
 use Prim.Native.Nat.{ℕ, zero, suc, _+_, _-_, _*_, _/_, _≤_, _<_}
 use native.Mathlib.Omega.{arith}
 use native.Mathlib.Nat.{add-zero, mul-le-mul-left, mul-div-le}
-use mathlib.Core.List.{List, [], _∷_, _++_, append-assoc, map}
+use mathlib.Core.List.{List, [], _∷_, _++_, append-assoc}
 use lib.ListN.{length, set, drop, length-append, length-set}
 use lib.Seq.{set-at}
 use Rattle.format.specs.Packed.{Bits}
 use Rattle.head_index.specs.NumbersAt.{digit-at, digits-at}
-use Rattle.read_packed.specs.Arrays.{number-in, store, Spread, put}
+use Rattle.read_packed.specs.Arrays.{bits-of, number-in, store, Spread, put}
+use Rattle.read_packed.specs.declared.Width.{Width}
+use Rattle.read_packed.proofs.WidthLaws.{number-inside}
 
--- a run of stores is a list in front of the rest: each number of an array, as g makes it
-stored-after : (g : ℕ → ℕ) (bits : Bits) (l : List ℕ) (v m k : ℕ) (done rest : List ℕ) → length done ≡ k → m ≤ length rest
-    → store (λ i. g (number-in bits l v i)) m k (done ++ rest) ≡ done ++ (map g (digits-at bits (drop v l) k m) ++ drop m rest)
+-- a run of stores is a list in front of the rest
+stored-after : (bits : Bits) (l : List ℕ) (v m k : ℕ) (done rest : List ℕ) → length done ≡ k → m ≤ length rest
+    → store (number-in bits l v) m k (done ++ rest) ≡ done ++ (digits-at bits (drop v l) k m ++ drop m rest)
 unfolding digits-at store number-in
-stored-after g bits l v zero k done [] e h = refl
-stored-after g bits l v zero k done (x ∷ rest) e h = refl
-stored-after g bits l v (suc m) k done [] e h = absurd (omega arith)
-stored-after g bits l v (suc m) k done (x ∷ rest) e h =
-    let d : ℕ = g (digit-at bits (drop v l) k) in
+stored-after bits l v zero k done [] e h = refl
+stored-after bits l v zero k done (x ∷ rest) e h = refl
+stored-after bits l v (suc m) k done [] e h = absurd (omega arith)
+stored-after bits l v (suc m) k done (x ∷ rest) e h =
+    let d : ℕ = digit-at bits (drop v l) k in
     let q : length (done ++ (d ∷ [])) ≡ k + 1 = omega (arith, length-append done (d ∷ [])) in
-    rw (set-at done x rest d k e) (simp append-assoc at (stored-after g bits l v m (k + 1) (done ++ (d ∷ [])) rest q (omega arith)))
-
-pub stored-first : (g : ℕ → ℕ) (bits : Bits) (l : List ℕ) (v n : ℕ) (row : List ℕ) → n ≤ length row
-    → store (λ i. g (number-in bits l v i)) n 0 row ≡ map g (digits-at bits (drop v l) 0 n) ++ drop n row
-stored-first g bits l v n row h = stored-after g bits l v n 0 [] row refl h
+    rw (set-at done x rest d k e) (simp append-assoc at (stored-after bits l v m (k + 1) (done ++ (d ∷ [])) rest q (omega arith)))
 
 -- a run in two parts
 store-both : (f : ℕ → ℕ) (a b k : ℕ) (row : List ℕ) → store f b (k + a) (store f a k row) ≡ store f (a + b) k row
@@ -36,6 +34,18 @@ store-both f (suc a) b k row =
     let g : suc a + b ≡ suc (a + b) = omega arith in
     rw (e, g) (store-both f a b (k + 1) (set row k (f k)))
 
+-- the full bytes, then the rest
+pub both-stored : (width told : Width) → width ≡ told → (l : List ℕ) (at n per : ℕ) (row mid new : List ℕ)
+    → mid ≡ store (number-in (bits-of told) l at) (per * (n / per)) 0 row
+    → new ≡ store (number-in (bits-of told) l at) (n - per * (n / per)) (per * (n / per)) mid
+    → n ≤ length row → new ≡ digits-at (bits-of width) (drop at l) 0 n ++ drop n row
+both-stored width told o l at n per row mid new e g h =
+    let f = number-in (bits-of told) l at in
+    let a : ℕ = per * (n / per) in
+    let z : 0 + a ≡ a = omega arith in
+    let s : a + (n - a) ≡ n = omega (arith, mul-div-le n per) in
+    rw o (g ∙ rw e (rw (z, s) at (store-both f a (n - a) 0 row)) ∙ stored-after (bits-of told) l at n 0 [] row refl h)
+
 -- ---- a loop that stores n numbers: number k is next, and storing the rest makes the row `last`
 
 pub record Storing (f : ℕ → ℕ) (n k : ℕ) (old row last : List ℕ) : Type 0 where
@@ -43,10 +53,8 @@ pub record Storing (f : ℕ → ℕ) (n k : ℕ) (old row last : List ℕ) : Typ
   pub long : length row ≡ length old
   pub left : store f (n - k) k row ≡ last
 
--- the full bytes are stored, the rest is next
-pub stores-rest : (f : ℕ → ℕ) (n per : ℕ) (row : List ℕ)
-    → Storing f n (per * (n / per)) row row (store f (n - per * (n / per)) (per * (n / per)) row)
-stores-rest f n per row = record { reached = mul-div-le n per; long = refl; left = refl }
+pub stores-from : (f : ℕ → ℕ) (n from : ℕ) (row : List ℕ) → from ≤ n → Storing f n from row row (store f (n - from) from row)
+stores-from f n from row h = record { reached = h; long = refl; left = refl }
 
 pub stores-all : (f : ℕ → ℕ) (n : ℕ) (row : List ℕ) → Storing f n 0 row row (store f n 0 row)
 stores-all f n row = let e : n - 0 ≡ n = omega arith in record { reached = omega arith; long = refl; left = rw e }
@@ -61,14 +69,6 @@ module _ (f : ℕ → ℕ) (n k : ℕ) (old row last : List ℕ) (s : Storing f 
   pub all-stored : n ≤ k → row ≡ last
   unfolding store
   all-stored h = let z : n - k ≡ 0 = omega arith in rw z at (s .left)
-
-pub both-stored : (f : ℕ → ℕ) (n per k : ℕ) (old mid row : List ℕ) → mid ≡ store f (per * (n / per)) 0 old
-    → Storing f n k mid row (store f (n - per * (n / per)) (per * (n / per)) mid) → n ≤ k → row ≡ store f n 0 old
-both-stored f n per k old mid row e s h =
-    let a : ℕ = per * (n / per) in
-    let z : 0 + a ≡ a = omega arith in
-    let whole : a + (n - a) ≡ n = omega (arith, mul-div-le n per) in
-    all-stored f n k mid row _ s h ∙ rw e (rw (z, whole) at (store-both f a (n - a) 0 old))
 
 four-turns : (f : ℕ → ℕ) (m k : ℕ) (row : List ℕ) → store f (suc (suc (suc (suc m)))) k row
     ≡ store f m (k + 4) (set (set (set (set row k (f k)) (k + 1) (f (k + 1))) (k + 2) (f (k + 2))) (k + 3) (f (k + 3)))
@@ -94,4 +94,4 @@ four-stored f n k old row last s h x new e g q =
 pub bytes-stored : (f : ℕ → ℕ) (w full i : ℕ) (old row last : List ℕ) → Storing f (w * full) (w * i) old row last → full ≤ i → row ≡ last
 bytes-stored f w full i old row last s h = all-stored f (w * full) (w * i) old row last s (mul-le-mul-left w h)
 
-pub ruleset rest-laws = (stores-rest, one-stored, both-stored)
+pub ruleset rest-laws = (stores-from, one-stored, all-stored, number-inside)

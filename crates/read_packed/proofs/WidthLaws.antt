@@ -80,6 +80,9 @@ module _ (width : Width) (per : ℕ) (e : per ≡ per-byte width) where
 pub number-inside : (width : Width) (at k n m : ℕ) → at + packed-size (bits-of width) n ≤ m → k < n → at + k / per-byte width < m
 number-inside width at k n m room h = omega (arith, byte-there (bits-of width) k n h)
 
+pub number-as : (width told : Width) (l : List ℕ) (at k r : ℕ) → width ≡ told → r ≡ number-in (bits-of told) l at k → r ≡ number-in (bits-of width) l at k
+number-as width told l at k r e h = rw e h
+
 -- ---- a number of one bit and one of two, as the code takes them out of their byte
 
 pub one-bit-is : (l : List ℕ) (v k : ℕ) → bitAnd (getD l (v + k / 8) 0 / 2 ^ (k % 8)) 1 ≡ number-in one l v k
@@ -92,4 +95,4 @@ two-bits-are l v k = rw (getD-drop v l (k / 4) 0, ← four-power (k % 4)) (and-m
 
 pub ruleset written-out = (eight-a-byte, four-a-byte, one-shift, two-shift)
 
-pub ruleset width-laws = (written-out, number-room, size-is, full-room, part-room, size-room, unused-full, unused-part)
+pub ruleset width-laws = (written-out, number-room, size-is, full-room, part-room, size-room, unused-full, unused-part, number-as)

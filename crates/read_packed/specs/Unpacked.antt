@@ -7,7 +7,6 @@ use Rattle.format.specs.Base.{pick, Out, ok, refused}
 use Rattle.format.specs.Packed.{Bits, one, two, read-packed}
 use Rattle.format.specs.Track.{bit-set}
 use Rattle.base_cursor.specs.Steps.{before}
-use Rattle.read_packed.specs.Arrays.{number-in}
 use Rattle.read_packed.specs.declared.PackedStep.{PackedStep}
 use Rattle.read_packed.specs.declared.PackedStep.the-variants.{Next, Refused}
 
@@ -34,10 +33,6 @@ unpacked-two n l at row = unpacked (length l) (λ vs. vs) n row (read-packed (le
 -- the category of a pair that a bit stands for
 abbrev pub of-pair : ℕ → ℕ → ℕ → ℕ
 of-pair lower higher bit = pick (bit-set bit) higher lower
-
--- number k of an array of bits, made such a category
-abbrev pub pair-in : ℕ → ℕ → List ℕ → ℕ → ℕ → ℕ
-pair-in lower higher l v k = of-pair lower higher (number-in one l v k)
 
 unfoldable pub unpacked-one : ℕ → ℕ → ℕ → List ℕ → ℕ → List ℕ → UnpackLeft
 unpacked-one lower higher n l at row = unpacked (length l) (map (of-pair lower higher)) n row (read-packed (length l) one n (drop at l))

@@ -4,12 +4,14 @@ use base_cursor::Cursor;
 use format::Refusal;
 use format::refusal_at;
 ghost use mathlib.Core.Path.{_≡_};
-ghost use Prim.Native.Nat.{_+_, _*_, _/_, _%_, _≤_, _<_};
-ghost use lib.ListN.{length};
+ghost use Prim.Native.Nat.{suc, _+_, _-_, _*_, _/_, _%_, _≤_, _<_};
+ghost use mathlib.Core.List.{_++_, map};
+ghost use lib.ListN.{length, take, drop};
 ghost use Rattle.format.specs.Limits.{most-samples};
-ghost use Rattle.format.specs.Packed.{one, two, packed-size};
+ghost use Rattle.format.specs.Packed.{one, two, more, packed-size};
+ghost use Rattle.head_index.specs.NumbersAt.{digits-at};
 ghost use Rattle.read_packed.specs.Arrays.{bits-of, most-numbers, number-in, unused, store, Spread, put};
-ghost use Rattle.read_packed.specs.Unpacked.{array-at, unpack-left, unpacked-two, unpacked-one, of-pair, pair-in};
+ghost use Rattle.read_packed.specs.Unpacked.{array-at, unpack-left, unpacked-two, unpacked-one, of-pair};
 
 // How many bits a number of an array has.
 pub enum Width {
@@ -50,6 +52,17 @@ pub fn one_bit(s: &[u8], at: usize, k: usize) -> u8
 {
     let b = s[at + k / 8];
     (b >> (k % 8)) & 1
+}
+
+// Number k of an array.
+fn number_in(s: &[u8], at: usize, k: usize, width: Width) -> u8
+    requires { ⌜ at + k / suc (more (bits-of width)) < length (now s) ⌝ }
+    ensures { λ r. ⌜ r ≡ number-in (bits-of width) (now (s .entry)) at k ⌝ }
+{
+    match width {
+        Width::One => one_bit(s, at, k),
+        Width::Two => two_bits(s, at, k),
+    }
 }
 
 // What is left of the last byte of n numbers.
@@ -105,22 +118,6 @@ fn spread_bits(b: u8) -> u32
     x % 2 + 256 * (x / 2 % 2) + 65536 * (x / 4 % 2) + 16777216 * (x / 8 % 2)
 }
 
-// A byte in each of the four of a wider number.
-fn in_each(byte: u8) -> u32
-    ensures { λ r. ⌜ r ≡ 16843009 * byte ⌝ }
-{
-    16843009 * (byte as u32)
-}
-
-// The four low bits of a byte, made the categories of a pair that they stand for: where a bit is set, the higher one.
-fn spread_pair(b: u8, lower: u8, higher: u8) -> u32
-    ensures { λ r. ⌜ Spread r (of-pair lower higher (b % 2)) (of-pair lower higher (b / 2 % 2))
-        (of-pair lower higher (b / 4 % 2)) (of-pair lower higher (b / 8 % 2)) ⌝ }
-{
-    let set = 255 * spread_bits(b);
-    (set & in_each(higher)) + (!set & in_each(lower))
-}
-
 // Its four bytes one after another: the compiler stores them at once, and several such in one step of the loops below.
 fn put_four(row: &mut [u8], at: usize, x: u32)
     requires { ⌜ at + 4 ≤ length (now row) ⌝ }
@@ -142,44 +139,43 @@ fn store_quads(s: &[u8], at: usize, full: usize, row: &mut [u8])
     }
 }
 
-// The category of a pair that a bit stands for.
-pub fn of_pair(bit: u8, lower: u8, higher: u8) -> u8
-    ensures { λ r. ⌜ r ≡ of-pair lower higher bit ⌝ }
-{
-    if bit == 0 { lower } else { higher }
-}
-
-// The categories that the bits of the first `full` bytes stand for, eight at a time.
-fn store_octets(s: &[u8], at: usize, full: usize, lower: u8, higher: u8, row: &mut [u8])
+// Eight bits at a time.
+fn store_octets(s: &[u8], at: usize, full: usize, row: &mut [u8])
     requires { ⌜ (at + full ≤ length (now s)) × (8 * full ≤ length (now row)) ⌝ }
-    ensures { λ _. ⌜ now (row .exit) ≡ store (pair-in lower higher (now (s .entry)) at) (8 * full) 0 (now (row .entry)) ⌝ }
+    ensures { λ _. ⌜ now (row .exit) ≡ store (number-in one (now (s .entry)) at) (8 * full) 0 (now (row .entry)) ⌝ }
 {
     for i in 0..full {
         let b = s[at + i];
-        put_four(row, 8 * i, spread_pair(b, lower, higher));
-        put_four(row, 8 * i + 4, spread_pair(b / 16, lower, higher));
+        put_four(row, 8 * i, spread_bits(b));
+        put_four(row, 8 * i + 4, spread_bits(b / 16));
     }
 }
 
-// n two-bit numbers into a row: those of the last byte, which may be fewer, one by one.
-fn store_numbers(s: &[u8], at: usize, n: usize, row: &mut [u8])
-    requires { ⌜ (n ≤ length (now row)) × (at + packed-size two n ≤ length (now s)) ⌝ }
-    ensures { λ _. ⌜ now (row .exit) ≡ store (number-in two (now (s .entry)) at) n 0 (now (row .entry)) ⌝ }
+// The numbers of the last byte, which may be fewer.
+fn store_rest(s: &[u8], at: usize, from: usize, n: usize, width: Width, row: &mut [u8])
+    requires { ⌜ (from ≤ n) × (n ≤ length (now row)) ⌝ }
+    requires { ⌜ at + packed-size (bits-of width) n ≤ length (now s) ⌝ }
+    ensures { λ _. ⌜ now (row .exit) ≡ store (number-in (bits-of width) (now (s .entry)) at) (n - from) from (now (row .entry)) ⌝ }
 {
-    store_quads(s, at, n / 4, row);
-    for k in 4 * (n / 4)..n {
-        row[k] = two_bits(s, at, k);
+    for k in from..n {
+        row[k] = number_in(s, at, k, width);
     }
 }
 
-// The categories that n bits stand for, likewise.
-fn store_pair(s: &[u8], at: usize, n: usize, lower: u8, higher: u8, row: &mut [u8])
-    requires { ⌜ (n ≤ length (now row)) × (at + packed-size one n ≤ length (now s)) ⌝ }
-    ensures { λ _. ⌜ now (row .exit) ≡ store (pair-in lower higher (now (s .entry)) at) n 0 (now (row .entry)) ⌝ }
+// n numbers into a row, as they are.
+fn store_numbers(s: &[u8], at: usize, n: usize, width: Width, row: &mut [u8])
+    requires { ⌜ (n ≤ length (now row)) × (at + packed-size (bits-of width) n ≤ length (now s)) ⌝ }
+    ensures { λ _. ⌜ now (row .exit) ≡ digits-at (bits-of width) (drop at (now (s .entry))) 0 n ++ drop n (now (row .entry)) ⌝ }
 {
-    store_octets(s, at, n / 8, lower, higher, row);
-    for k in 8 * (n / 8)..n {
-        row[k] = of_pair(one_bit(s, at, k), lower, higher);
+    match width {
+        Width::One => {
+            store_octets(s, at, n / 8, row);
+            store_rest(s, at, 8 * (n / 8), n, Width::One, row);
+        }
+        Width::Two => {
+            store_quads(s, at, n / 4, row);
+            store_rest(s, at, 4 * (n / 4), n, Width::Two, row);
+        }
     }
 }
 
@@ -192,9 +188,26 @@ pub fn unpack_categories(s: &[u8], c: Cursor, n: usize, row: &mut [u8]) -> Packe
     match checked {
         PackedStep::Refused(why) => PackedStep::Refused(why),
         PackedStep::Next(end) => {
-            store_numbers(s, c.at, n, row);
+            store_numbers(s, c.at, n, Width::Two, row);
             PackedStep::Next(end)
         }
+    }
+}
+
+// The category of a pair that a bit stands for.
+pub fn of_pair(bit: u8, lower: u8, higher: u8) -> u8
+    ensures { λ r. ⌜ r ≡ of-pair lower higher bit ⌝ }
+{
+    if bit == 0 { lower } else { higher }
+}
+
+// Bits, one to a byte, made the categories that they stand for.
+fn choose(row: &mut [u8], n: usize, lower: u8, higher: u8)
+    requires { ⌜ n ≤ length (now row) ⌝ }
+    ensures { λ _. ⌜ now (row .exit) ≡ map (of-pair lower higher) (take n (now (row .entry))) ++ drop n (now (row .entry)) ⌝ }
+{
+    for i in 0..n {
+        row[i] = of_pair(row[i], lower, higher);
     }
 }
 
@@ -214,7 +227,8 @@ pub fn unpack_pair(
     match checked {
         PackedStep::Refused(why) => PackedStep::Refused(why),
         PackedStep::Next(end) => {
-            store_pair(s, c.at, n, lower, higher, row);
+            store_numbers(s, c.at, n, Width::One, row);
+            choose(row, n, lower, higher);
             PackedStep::Next(end)
         }
     }

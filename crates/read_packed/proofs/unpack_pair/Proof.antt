@@ -13,6 +13,7 @@ unpack-pair-spec =
     (λ c. search needs)
     (λ c. search needs)
     (λ c κs. search (unpack-laws, needs))
+    (λ c κs. search needs)
     (λ c. search (unpack-laws, needs))
     (λ c. search needs)
     (λ c. search (unpack-laws, needs)))
