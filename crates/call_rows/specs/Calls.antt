@@ -144,7 +144,7 @@ leaning-checked rows held p work =
     (named-reply (rows .variant) (body-checked (rows .fields .samples) (p .record_type) (take (p .end) held) (p .start) work))
     (Refused (rows .refusal))
 
--- a record that leans on none, read in the work area
+-- a record that leans on none, as if it were read in the work area
 abbrev pub over-nothing : Rows → List ℕ → Place → List ℕ → List ℕ → Left
 over-nothing rows held p output work = alone rows (p .end) output (read-at rows held p work)
 

@@ -96,7 +96,8 @@ fn past(rows: Rows, end: usize, refusal: Refusal) -> Rows
     }
 }
 
-// Past a record that leans on none, by its reply. Its categories, which the output holds, are copied to the work area, where they stay for those that lean on it.
+// Past a record that leans on none, by its reply. Its categories, which the output holds, are copied to the work area, where they stay for those that lean on
+// it.
 fn keep_row(rows: Rows, end: usize, got: Reply, output: &[u8], work: &mut [u8]) -> RowStep
     requires { ⌜ (rows .variant .0 < most-variants) × (rows .fields .samples ≤ length (now output)) × (rows .fields .samples ≤ length (now work)) ⌝ }
     ensures { λ r. ⌜ kept r (now (work .exit)) ≡ row-kept rows end got (now (output .entry)) (now (work .entry)) ⌝ }

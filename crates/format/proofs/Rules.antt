@@ -68,6 +68,10 @@ weaken P Q (refused why) k h = tt
 pub never-both {ℓ} : {X : Type ℓ} {t : Bool} → t ≡ true → t ≡ false → X
 never-both p q = let z : _≡_ {A = ℕ} 0 1 = cc in absurd (omega arith)
 
+-- what was not found, or is not known, says nothing
+pub unsaid : {A : Type 0} → false ≡ true → A
+unsaid e = never-both e refl
+
 -- two tests that both hold
 pub both : (a b : Bool) → a && b ≡ true → (a ≡ true) × (b ≡ true)
 both true b h = (refl, h)

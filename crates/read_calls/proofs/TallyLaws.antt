@@ -1,4 +1,4 @@
--- A turn of the loop of `count_run`, and what it does for the walk that it is part of.
+-- A turn of the loop of `count_short_steps`, and what it does for the walk that it is part of.
 -- Assumes nothing.
 use mathlib.Core.Path.{_≡_, refl}
 use Prim.Native.Nat.{ℕ, suc, _+_, _-_, _/_, _<_}

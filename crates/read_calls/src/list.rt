@@ -52,8 +52,15 @@ fn category_before(s: &[u8], base: StoredBase, row: &[u8], sample: usize) -> u8
     }
 }
 
-// A run of steps of a byte or two that are accepted, as many as come one after another: a loop of its own, since it needs to carry so little.
-fn count_run(s: &[u8], n: usize, values: usize, base: StoredBase, from: Tally, row: &[u8]) -> Tally
+// Steps of a byte or two that are accepted, as many as come one after another: a loop of its own, since it needs to carry so little.
+fn count_short_steps(
+    s: &[u8],
+    n: usize,
+    values: usize,
+    base: StoredBase,
+    from: Tally,
+    row: &[u8],
+) -> Tally
     requires { ⌜ Standing (now s) n values base (now row) from ⌝ }
     ensures { λ r. ⌜ Stepping (now (s .entry)) n values base (now (row .entry)) from r ⌝ }
 {
@@ -155,7 +162,7 @@ fn count_entries(
                     had: t.had + (call_count(value) as usize),
                     lost: t.lost + (call_count(old) as usize),
                 };
-                t = count_run(s, n, values, base, from, row);
+                t = count_short_steps(s, n, values, base, from, row);
             }
         }
     }

@@ -1,6 +1,6 @@
 // A record only checked: nothing is read into a row, so nothing is left of one after a refusal. One that leans looks at the row that holds its anchor's
-// categories; another looks at no row. And the next record of a check of all. Every slice `s` is the file cut where the record ends, so that its length is the
-// record's end and a place in it is a place in the file.
+// categories; another looks at no row, and may be read straight into an output once it is accepted. And the next record of a check of all. Every slice `s` is
+// the file cut where the record ends, so that its length is the record's end and a place in it is a place in the file.
 use base_cursor::ByteStep;
 use base_cursor::Cursor;
 use format::PairFound;
@@ -126,8 +126,8 @@ pub fn check_body(s: &[u8], c: Cursor, n: usize, record_type: u8, row: &[u8]) ->
     whole_record(check_track(s, c, n, number, row), s.len())
 }
 
-// 02, Ask 3: "Check such a record first, then unpack straight to the output." Of a record that leans on none: what the output holds is not looked at by the check,
-// and a refusal leaves it as it was. Once the record is accepted its main track cannot be refused: the cursor past it.
+// 02, Ask 3: "Check such a record first, then unpack straight to the output." Of a record that leans on none: what the output holds is not looked at by the
+// check, and a refusal leaves it as it was. Once the record is accepted its main track cannot be refused: the cursor past it.
 fn straight_tracks(s: &[u8], c: Cursor, n: usize, record_type: u8, output: &mut [u8]) -> ListStep
     requires { ⌜ (c .at ≤ length (now s)) × (n ≤ most-samples) × (n ≤ length (now output)) ⌝ }
     requires { ⌜ (kind-of record_type ≡ 5 → ⊥) ⌝ }

@@ -141,7 +141,8 @@ pub given-as : {index held : List ℕ} {f : Fields} {v : FileVariant} {output ro
     → Given (f .samples) output r out (read-variant variants-to-a-block (c .has .has .layout) v)
 given-as {f = f} {v} {output} {row} {r} {out} c y =
     go (read-variant variants-to-a-block l v)
-    (c .is ∙ ap (λ (n : ℕ). straight-replied n output (read-variant variants-to-a-block l v)) (sym (samples-are (c .has .has .stored) (c .has .has .fields-are))))
+    (c .is
+    ∙ ap (λ (n : ℕ). straight-replied n output (read-variant variants-to-a-block l v)) (sym (samples-are (c .has .has .stored) (c .has .has .fields-are))))
     (refuses-record (c .has) y body-categories)
   where
     l : Layout

@@ -1,5 +1,5 @@
-// The records of a file that the header check accepts: all checked in order, or one read over its anchor, its phases too. `f` holds the fields that the check
-// gave.
+// The records of a file that the header check accepts: all checked in order, or one read, over its anchor if it leans, its phases too. `f` holds the fields
+// that the check gave.
 ghost use Prim.Native.Nat.{_≤_};
 ghost use lib.ListN.{length};
 ghost use Rattle.format.specs.Limits.{most-variants};
@@ -173,7 +173,7 @@ pub fn read_output(
     named_reply(v, got)
 }
 
-// Likewise, and its phases into the output, which a refusal finds untouched.
+// As `read_row`, and its phases into the output, which a refusal finds untouched.
 pub fn read_phases(
     index: &[u8],
     held: &[u8],

@@ -13,7 +13,7 @@ use mir.Syntax.{w64}
 use mir.Val.{Fits}
 use borrow.Author.Tests.{ltb-true}
 use borrow.Author.Count.{below-more}
-use Rattle.format.proofs.Rules.{split}
+use Rattle.format.proofs.Rules.{split, unsaid}
 use Rattle.head_index.specs.NumbersAt.{digit-at}
 use Rattle.read_packed.specs.Arrays.{number-in}
 use Rattle.base_cursor.specs.Steps.{cursor-at}
@@ -24,7 +24,6 @@ use Rattle.read_list.specs.Walked.{Accepted}
 use Rattle.read_list.specs.Fours.{Single, FourNext, FourThere, sample-after, values-put}
 use Rattle.read_list.specs.declared.State.{State}
 use Rattle.read_list.proofs.NumberLaws.{Known}
-use Rattle.read_list.proofs.RunValues.{unsaid}
 use Rattle.read_list.proofs.KnownWalks.{Walks, walks-turn}
 
 -- ---- whether there are four

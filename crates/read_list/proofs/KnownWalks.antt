@@ -1,4 +1,4 @@
--- A turn of the loop of `put_known_steps`: the list was accepted before, so each test of `put_short_steps` would hold.
+-- A turn of the loop of `put_known_steps`: the list was accepted before, so what `put_short_steps` tests of a step and its value holds.
 -- Assumes nothing.
 use mathlib.Core.Path.{_≡_, refl, sym, _∙_, subst}
 use Prim.Native.Nat.{ℕ, suc, _+_, _-_, _/_, _≤_, _<_}
@@ -90,7 +90,6 @@ pub record Walks (l : List ℕ) (n vals count : ℕ) (first : State) (least : �
   pub inside : done ≤ least
   pub group : least ≤ first .room
   pub fewer : least ≤ count
-  pub few : first .passed + count ≤ most-samples
   pub values : vals + (first .passed + count + 3) / 4 ≤ length l
 
 pub walks-start : {l : List ℕ} {n vals count : ℕ} {first : State} {least : ℕ} {row : List ℕ} → Room l n vals count first → n ≤ length row
@@ -101,7 +100,6 @@ walks-start r h g f = record {
   inside = omega arith;
   group = g;
   fewer = f;
-  few = r .few;
   values = r .values;
 }
 
@@ -133,7 +131,6 @@ module _ {l : List ℕ} {n vals count : ℕ} {first : State} {least : ℕ} {row�
         inside = omega arith;
         group = w .group;
         fewer = w .fewer;
-        few = w .few;
         values = w .values;
       }
 

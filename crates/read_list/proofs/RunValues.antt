@@ -14,16 +14,13 @@ use mir.Val.{Fits}
 use borrow.Author.Tests.{eqb-true, eqb-false, eq-eqb, ne-eqb, not-false}
 use borrow.Author.Count.{below-more}
 use Rattle.format.proofs.AllBelow.{below-all, all-below}
+use Rattle.format.proofs.Rules.{unsaid}
 use Rattle.head_index.specs.NumbersAt.{digit-at}
 use Rattle.read_packed.specs.Arrays.{number-in}
 use Rattle.read_list.specs.Entries.{value-at, allows}
 use Rattle.read_list.specs.Runs.{FourApart, BytesApart, AllOff}
 use Rattle.read_list.specs.declared.ListRule.{ListRule}
 use Rattle.read_list.specs.declared.ListRule.the-variants.{OffPair}
-
--- what was not found, or is not known, says nothing
-pub unsaid : {A : Type 0} → false ≡ true → A
-unsaid e = absurd (let z : _≡_ {A = ℕ} 0 1 = cc in omega arith)
 
 -- ---- one byte: one test of all bytes and pairs, which antt computes
 
@@ -63,7 +60,8 @@ four-apart lower higher byte l z = record { each = each }
     each : (j : ℕ) → j < 4 → (old : ℕ) → allows (OffPair lower higher) old (byte / 4 ^ j % 4) ≡ true
     each j h old =
         let value : ℕ = byte / 4 ^ j % 4 in
-        let n = neither (eqb value (lower % 4)) (eqb value (higher % 4)) (byte-rule (lower % 4) (higher % 4) byte j (omega arith) (omega arith) (l .fits) h z) in
+        let t = byte-rule (lower % 4) (higher % 4) byte j (omega arith) (omega arith) (l .fits) h z in
+        let n = neither (eqb value (lower % 4)) (eqb value (higher % 4)) t in
         let a : value ≡ lower % 4 → ⊥ = eqb-false _ _ (n .0) in
         let b : value ≡ higher % 4 → ⊥ = eqb-false _ _ (n .1) in
         let small : value < 4 = omega arith in

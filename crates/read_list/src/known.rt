@@ -1,5 +1,5 @@
-// The short steps of a list that was accepted before, put into a row: each test of `put_short_steps` would hold, so none is made. Where four steps take a byte
-// each, and the values of their entries fill one, all four are put at once.
+// The short steps of a list that was accepted before, put into a row: no step is 0 or leads past the last sample, and each value may be listed, so none of
+// that is tested. Where four steps take a byte each, and the values of their entries fill one, all four are put at once.
 use crate::State;
 use crate::Walk;
 use crate::run::as_step;

@@ -1,12 +1,12 @@
-// Runs: steps of a byte or two that stand one after another, found by flat loops, with no exit in them. In an accepted list nearly every step is passed so,
-// and what no run takes is walked step by step, which alone refuses.
+// Runs: steps of a byte or two that stand one after another, found by flat loops, with no exit in them. In a check of an accepted list that is off a pair
+// nearly every step is passed so; what no run takes is walked step by step, which alone refuses.
 use crate::State;
 use crate::StepRun;
 use crate::Walk;
 use base_cursor::Cursor;
 use base_rows::larger;
 ghost use mathlib.Core.Path.{_≡_};
-ghost use Prim.Native.Nat.{_+_, _-_, _^_, _≤_, _<_};
+ghost use Prim.Native.Nat.{_+_, _-_, _^_, min, _≤_, _<_};
 ghost use lib.ListN.{length};
 ghost use Rattle.read_list.specs.Runs.{Steps, InPlace, HighPart, RunReady, RunFrom, no-run, after, past};
 
@@ -138,13 +138,13 @@ fn no_run() -> StepRun
 
 // The lesser of two numbers.
 pub fn lesser(a: usize, b: usize) -> usize
-    ensures { λ r. ⌜ (r ≤ a) × (r ≤ b) ⌝ }
+    ensures { λ r. ⌜ (r ≡ min a b) × (r ≤ a) × (r ≤ b) ⌝ }
 {
     if a < b { a } else { b }
 }
 
-// How many bytes the `count` steps are likely to take: by the group's size byte, or to the record's end, or a byte each where a phase track follows. A guess
-// alone: what is wrong is no run.
+// How many bytes the `count` steps are likely to take: all of the group's by its size byte; in the last group those to the record's end, or a byte each where
+// these are too many. A guess alone: what is wrong is no run.
 fn likely_size(s: &[u8], st: State, more: usize, count: usize) -> usize
     requires { ⌜ st .at .at ≤ length (now s) ⌝ }
     requires { ⌜ (st .room < more → st .size .at + 1 ≤ length (now s)) ⌝ }

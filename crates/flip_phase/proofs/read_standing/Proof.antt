@@ -1,7 +1,7 @@
 -- `flip_phase::read_standing` meets its contract.
 -- Assumes nothing.
 use borrow.Author.Needs.{needs}
-use Rattle.read_list.proofs.RunValues.{unsaid}
+use Rattle.format.proofs.Rules.{unsaid}
 use Rattle.flip_phase.proofs.MainLaws.{standing-laws}
 use Rattle.flip_phase.proofs.read_standing.Statement.{statement}
 use Rattle.flip_phase.proofs.read_standing.Tie as tie

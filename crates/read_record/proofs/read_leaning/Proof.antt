@@ -1,7 +1,7 @@
 -- `read_record::read_leaning` meets its contract.
 -- Assumes nothing.
 use borrow.Author.Needs.{needs}
-use Rattle.read_list.proofs.RunValues.{unsaid}
+use Rattle.format.proofs.Rules.{unsaid}
 use Rattle.read_record.proofs.RowLaws.{leaning-laws}
 use Rattle.read_record.proofs.read_leaning.Statement.{statement}
 use Rattle.read_record.proofs.read_leaning.Tie as tie

@@ -1,7 +1,7 @@
 -- `read_record::read_tracks` meets its contract.
 -- Assumes nothing.
 use borrow.Author.Needs.{needs}
-use Rattle.read_list.proofs.RunValues.{unsaid}
+use Rattle.format.proofs.Rules.{unsaid}
 use Rattle.read_record.proofs.TracksLaws.{tracks-laws}
 use Rattle.read_record.proofs.read_tracks.Statement.{statement}
 use Rattle.read_record.proofs.read_tracks.Tie as tie

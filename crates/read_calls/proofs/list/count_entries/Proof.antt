@@ -79,12 +79,12 @@ count-entries-spec =
     (bytes (turn i) .shared-slice-known .given) (v .two-bits .ensures) (a .call-count .ensures) (o .category-before .ensures) (b .call-count2 .ensures) in
     count-standing on)
     (λ c.
-    let t : tie.After-count-run Inv-loop μ-loop = search in
+    let t : tie.After-count-short-steps Inv-loop μ-loop = search in
     let b : tie.After-call-count2 Inv-loop μ-loop = search in
     let i = before-entry (before-told (before-value (before-category (before-count (before-count2 b))))) in
-    omega (arith, t .count-run .ensures .fewer, i .if1 .taken))
+    omega (arith, t .count-short-steps .ensures .fewer, i .if1 .taken))
     (λ c.
-    let t : tie.After-count-run Inv-loop μ-loop = search in
+    let t : tie.After-count-short-steps Inv-loop μ-loop = search in
     let b : tie.After-call-count2 Inv-loop μ-loop = search in
     let a = before-count2 b in
     let o = before-count a in
@@ -94,6 +94,6 @@ count-entries-spec =
     let i = before-entry e in
     let on = count-on (turn i .loop .inv) (i .if1 .taken) (ruled (turn i) .rule-of .ensures) (e .count-entry .ensures) (g .got2 .given .1)
     (bytes (turn i) .shared-slice-known .given) (v .two-bits .ensures) (a .call-count .ensures) (o .category-before .ensures) (b .call-count2 .ensures) in
-    t .count-run .ensures .goes _ _ on)
+    t .count-short-steps .ensures .goes _ _ on)
     (λ c. search (count-entries-laws, needs))
     (λ c. search (count-entries-laws, needs)))

@@ -1,7 +1,7 @@
 -- `timed::loops::timed_put_list` meets what the calls in it ask for.
 -- Assumes nothing.
 use borrow.Author.Needs.{needs}
-use Rattle.read_list.proofs.RunValues.{unsaid}
+use Rattle.format.proofs.Rules.{unsaid}
 use Rattle.timed.proofs.loops.timed_put_list.Statement.{statement}
 use Rattle.timed.proofs.loops.timed_put_list.Tie as tie
 

@@ -1,12 +1,12 @@
--- `read_calls::list::count_run` meets its contract.
+-- `read_calls::list::count_short_steps` meets its contract.
 -- Assumes nothing.
 use Rattle.read_calls.specs.Tallied.{Stepping}
 use Rattle.read_list.proofs.LoopLaws.{less}
 use Rattle.read_calls.proofs.CountedEntryLaws.{tally}
 use borrow.Author.Needs.{needs}
 use Rattle.read_calls.proofs.TallyLaws.{step-laws, step-passed, step-short}
-use Rattle.read_calls.proofs.list.count_run.Statement.{statement}
-use Rattle.read_calls.proofs.list.count_run.Tie as tie
+use Rattle.read_calls.proofs.list.count_short_steps.Statement.{statement}
+use Rattle.read_calls.proofs.list.count_short_steps.Tie as tie
 
 abbrev Inv-loop : tie.InvT-loop
 Inv-loop s n values base row held st₀ more₀ had₀ lost₀ st more had lost = Stepping s n values base row (tally st₀ more₀ had₀ lost₀) (tally st more had lost)
@@ -29,8 +29,8 @@ bytes i = search
 abbrev ruled : tie.In-loop Inv-loop μ-loop → tie.After-rule-of Inv-loop μ-loop
 ruled i = search
 
-pub count-run-spec : {M : Type 1} → statement M
-count-run-spec =
+pub count-short-steps-spec : {M : Type 1} → statement M
+count-short-steps-spec =
     tie.close
     (tie.spec
     Inv-loop
