@@ -6,6 +6,7 @@ use native.Mathlib.Omega.{arith}
 use native.Mathlib.Numerals.{add-one}
 use mathlib.Core.List.{List, [], _∷_, _++_, map, map-append, append-assoc}
 use lib.ListN.{length, getD, set, take, drop, replicate, length-append, length-set, replicate-append-replicate}
+use lib.Bits.{bitXor, xor-zero-l, xor-zero-r, xor-self}
 use lib.Seq.{take-suc, drop-cons, set-at, getD-at}
 use Rattle.format.specs.Category.{exchange}
 
@@ -75,8 +76,21 @@ module _ (f : ℕ → ℕ) (n : ℕ) (old row : List ℕ) (i : ℕ) (w : Written
 
 pub ruleset map-laws = (unwritten, map-turn, mapped)
 
-pub exchange-kept : (n : ℕ) → (n ≡ 0 → ⊥) → (n ≡ 2 → ⊥) → n ≡ exchange n
+exchange-kept : (n : ℕ) → (n ≡ 0 → ⊥) → (n ≡ 2 → ⊥) → n ≡ exchange n
 exchange-kept zero p q = absurd (p refl)
 exchange-kept (suc zero) p q = refl
 exchange-kept (suc (suc zero)) p q = absurd (q refl)
 exchange-kept (suc (suc (suc n))) p q = refl
+
+-- ---- the bit by which a category is exchanged
+
+pub zero-turned : (n : ℕ) → n ≡ 0 → bitXor n 2 ≡ exchange n
+zero-turned n e = rw e (xor-zero-l 2)
+
+pub two-turned : (n : ℕ) → n ≡ 2 → bitXor n 2 ≡ exchange n
+two-turned n e = rw e (xor-self 2)
+
+pub none-turned : (n : ℕ) → (n ≡ 0 → ⊥) → (n ≡ 2 → ⊥) → bitXor n 0 ≡ exchange n
+none-turned n p q = xor-zero-r n ∙ exchange-kept n p q
+
+pub ruleset turned-laws = (zero-turned, two-turned, none-turned)

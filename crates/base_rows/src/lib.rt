@@ -3,6 +3,7 @@ ghost use mathlib.Core.Path.{_≡_};
 ghost use Prim.Native.Nat.{_≤_};
 ghost use mathlib.Core.Bool.{true};
 ghost use mathlib.Core.List.{_++_};
+ghost use lib.Bits.{bitXor};
 ghost use lib.ListN.{length, take, drop, replicate};
 ghost use Rattle.format.specs.Category.{exchange, exchange-all};
 
@@ -34,17 +35,24 @@ pub fn copy(from: &[u8], n: usize, to: &mut [u8])
     }
 }
 
-// A category with 0 and 2 exchanged.
-fn exchanged(category: u8) -> u8
-    ensures { λ r. ⌜ r ≡ exchange category ⌝ }
+// The bit that 0 and 2 differ in, for either of them, and none for another category.
+fn turned_bit(category: u8) -> u8
+    ensures { λ r. ⌜ bitXor category r ≡ exchange category ⌝ }
 {
     if category == 0 {
         return 2;
     }
     if category == 2 {
-        return 0;
+        return 2;
     }
-    category
+    0
+}
+
+// A category with 0 and 2 exchanged: by a bit, so that no category is stored as it was, and a loop over a row stays flat.
+fn exchanged(category: u8) -> u8
+    ensures { λ r. ⌜ r ≡ exchange category ⌝ }
+{
+    category ^ turned_bit(category)
 }
 
 // 01, Categories and kinds: "0 and 2 exchanged for all samples".

@@ -29,29 +29,29 @@ use Rattle.read_list.proofs.KnownWalks.{Walks, walks-turn}
 -- ---- whether there are four
 
 -- of the bytes passed
-pub record Looked (l : List ℕ) (at most j : ℕ) : Type 0 where
+pub record Looked (l : List ℕ) (at j : ℕ) : Type 0 where
   pub there : at + 4 ≤ length l
   pub inside : j ≤ 4
-  pub each : (k : ℕ) → k < j → getD l (at + k) 0 ≤ most
+  pub each : (k : ℕ) → k < j → getD l (at + k) 0 < 128
 
-pub look-start : (l : List ℕ) (at : ℕ) → at + 4 ≤ length l → Looked l at 0 0
+pub look-start : (l : List ℕ) (at : ℕ) → at + 4 ≤ length l → Looked l at 0
 look-start l at h = record { there = h; inside = omega arith; each = λ k p. absurd (omega arith) }
 
-module _ {l : List ℕ} {at most j : ℕ} (g : Looked l at most j) where
+module _ {l : List ℕ} {at j : ℕ} (g : Looked l at j) where
   pub look-inside : j < 4 → at + j < length l
   look-inside h = omega (arith, g .there)
 
-  pub look-turn : j < 4 → {next : ℕ} → most ≤ next → getD l (at + j) 0 ≤ next → Looked l at next (j + 1)
-  look-turn h {next} a b = record {
+  pub look-turn : j < 4 → getD l (at + j) 0 < 128 → Looked l at (j + 1)
+  look-turn h b = record {
     there = g .there;
     inside = omega arith;
-    each = below-more (λ (k : ℕ). getD l (at + k) 0 ≤ next) j (λ k p. omega (arith, g .each k p)) b;
+    each = below-more (λ (k : ℕ). getD l (at + k) 0 < 128) j (g .each) b;
   }
 
-  pub look-end : 4 ≤ j → ltb most 128 ≡ true → Single l at 4
-  look-end h t = record { each = λ k p. let q : k < j = omega arith in omega (arith, g .each k q, ltb-true most 128 t) }
+  pub look-end : 4 ≤ j → Single l at 4
+  look-end h = record { each = λ k p. g .each k (omega arith) }
 
-pub ruleset look-laws = (look-start, look-inside, look-turn, look-end)
+pub ruleset look-laws = (look-start, look-inside, look-turn, look-end, unsaid)
 
 pub four-found : (l : List ℕ) (at passed left : ℕ) {b : Bool} → passed % 4 ≡ 0 → 4 ≤ left → 4 ≤ length l - at → Fits w64 (length l)
     → (b ≡ true → Single l at 4) → b ≡ true → FourNext l at passed left

@@ -7,7 +7,6 @@ use crate::run::lesser;
 use crate::run::walked;
 use base_cursor::Cursor;
 use base_cursor::ShortStep;
-use base_rows::larger;
 ghost use mathlib.Core.Path.{_≡_};
 ghost use mathlib.Core.Bool.{true};
 ghost use Prim.Native.Nat.{_+_, _≤_};
@@ -21,11 +20,12 @@ fn four_single(s: &[u8], at: usize) -> bool
     requires { ⌜ at + 4 ≤ length (now s) ⌝ }
     ensures { λ r. ⌜ (r ≡ true → Single (now (s .entry)) at 4) ⌝ }
 {
-    let mut most: u8 = 0;
     for j in 0..4 {
-        most = larger(most, s[at + j]);
+        if s[at + j] >= 128 {
+            return false;
+        }
     }
-    most < 128
+    true
 }
 
 // Whether the next four entries, of `left`, may be put at once: `passed` are, and their steps would start at `at`.

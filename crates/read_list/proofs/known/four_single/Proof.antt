@@ -7,10 +7,10 @@ use Rattle.read_list.proofs.known.four_single.Statement.{statement}
 use Rattle.read_list.proofs.known.four_single.Tie as tie
 
 abbrev Inv-loop : tie.InvT-loop
-Inv-loop s at most₀ j₀ most j = Looked s at most j
+Inv-loop s at j₀ j = Looked s at j
 
 abbrev μ-loop : tie.MeasureT-loop
-μ-loop s at most₀ j₀ most j = 4 - j
+μ-loop s at j₀ j = 4 - j
 
 pub four-single-spec : {M : Type 1} → statement M
 four-single-spec =
@@ -21,7 +21,7 @@ four-single-spec =
     (λ c. search (look-laws, needs))
     (λ c. search (look-laws, needs))
     (λ c. search (look-laws, needs))
-    (λ c κs. search (look-laws, needs))
+    (λ c. search (look-laws, needs))
     (λ c. search (look-laws, needs))
     (λ c. search (look-laws, needs))
     (λ c. search (look-laws, needs))
