@@ -48,7 +48,7 @@ fn turned_bit(category: u8) -> u8
     0
 }
 
-// A category with 0 and 2 exchanged: by a bit, so that no category is stored as it was, and a loop over a row stays flat.
+// A category with 0 and 2 exchanged: by a bit, of which the compiler makes a flat loop over a row; of the category itself by two tests it makes branches.
 fn exchanged(category: u8) -> u8
     ensures { λ r. ⌜ r ≡ exchange category ⌝ }
 {
