@@ -165,8 +165,18 @@ image_if_twice true true code_9 = refl
 pub turns_twice : (a b : Bool) (c : PairCode)
     → just_one (a && (pair (image_if b c)).turns) (b && (pair c).turns) ≡ just_one a b && (pair c).turns
 turns_twice false b c = refl
-turns_twice true false c = elim c [ code_1 ↦ refl | code_2 ↦ refl | code_3 ↦ refl | code_5 ↦ refl | code_6 ↦ refl | code_9 ↦ refl ]
-turns_twice true true c = elim c [ code_1 ↦ refl | code_2 ↦ refl | code_3 ↦ refl | code_5 ↦ refl | code_6 ↦ refl | code_9 ↦ refl ]
+turns_twice true false code_1 = refl
+turns_twice true false code_2 = refl
+turns_twice true false code_3 = refl
+turns_twice true false code_5 = refl
+turns_twice true false code_6 = refl
+turns_twice true false code_9 = refl
+turns_twice true true code_1 = refl
+turns_twice true true code_2 = refl
+turns_twice true true code_3 = refl
+turns_twice true true code_5 = refl
+turns_twice true true code_6 = refl
+turns_twice true true code_9 = refl
 
 -- bits turned twice
 pub bits_turned_twice : (a b : Bool) (bits : List Bool) → map (just_one a) (map (just_one b) bits) ≡ map (just_one (just_one a b)) bits
