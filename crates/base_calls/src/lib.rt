@@ -1,4 +1,6 @@
 // Which calls can be phased: once for reading, counting and writing.
+#![tactic(auto)]
+
 ghost use Rattle.std.specs.Prelude.{◌≡◌};
 ghost use Rattle.format.specs.Phase.{heterozygous};
 ghost use Rattle.base_calls.specs.CallCount.{call_count};

@@ -1,6 +1,8 @@
 // The place within a record (01, Difference lists): "a small cursor that each reading step takes and hands back moved on". A cursor
 // is a place in the slice, whose length is the record's end: the slice is the file cut where the record ends, and a cursor a place in the file. A flip
 // cuts the record out: there it is a place in the record.
+#![tactic(auto)]
+
 ghost use Rattle.std.specs.Prelude.{◌≡◌, ◌+◌, ◌^◌, ◌≤◌, ◌<◌, length};
 ghost use Rattle.base_cursor.specs.Steps.{cursor_at, byte_at, varint_rest, varint_at, short_at, number_step};
 

@@ -1,4 +1,6 @@
 // The shape of a difference list, as far as the numbers of samples and of entries give it: one answer for those who read a list, flip it and write it.
+#![tactic(auto)]
+
 ghost use Rattle.std.specs.Prelude.{◌≡◌, ◌≤◌};
 ghost use Rattle.format.specs.Limits.{most_samples};
 ghost use Rattle.format.specs.Difflist.{number_width, groups};

@@ -1,4 +1,6 @@
 // The table of the pair codes.
+#![tactic(auto)]
+
 ghost use Rattle.std.specs.Prelude.{◌≡◌, ◌<◌};
 ghost use Rattle.format.specs.PairCode.{pair_at, found};
 

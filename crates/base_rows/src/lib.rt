@@ -1,4 +1,6 @@
 // Rows, a byte for each sample: filled, cleared, copied, exchanged; and the larger of two bytes, for flat loops that look for a largest.
+#![tactic(auto)]
+
 ghost use Rattle.std.specs.Prelude.{◌≡◌, ◌≤◌, true, ◌++◌, length, take, drop, replicate};
 ghost use Rattle.std.specs.Int.Bits.{bit_xor};
 ghost use Rattle.format.specs.Category.{exchange, exchange_all};

@@ -1,4 +1,6 @@
 // From a variant's number in the file to its number in its block, and back.
+#![tactic(auto)]
+
 ghost use Rattle.std.specs.Prelude.{◌≡◌, ◌≤◌, ◌<◌};
 ghost use Rattle.format.specs.Limits.{variants_to_a_block};
 ghost use Rattle.format.specs.Variant.{block_of, in_block, in_file};

@@ -1,4 +1,6 @@
 // The call that flips a set of variants in the stored bytes, once the file, the set and the work area are found to be in order.
+#![tactic(auto)]
+
 ghost use Rattle.std.specs.Prelude.{◌≡◌};
 ghost use Rattle.format.specs.Limits.{variants_to_a_block};
 ghost use Rattle.format.specs.Reply.{past_last, flip_left, flip_call};

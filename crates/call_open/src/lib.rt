@@ -1,4 +1,6 @@
 // The opening of a public call: the header check, then the sizes of what was lent, then the variant.
+#![tactic(auto)]
+
 ghost use Rattle.std.specs.Prelude.{◌≡◌, min};
 ghost use Rattle.format.specs.Base.{refusal, named};
 ghost use Rattle.call_open.specs.Open.{Opening, OpeningAt};

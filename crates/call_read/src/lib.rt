@@ -1,5 +1,7 @@
 // The calls that read: the whole-file check, a read of categories or of phases, a lookup, the view of a record. Each opens the file before it looks at a
 // record.
+#![tactic(auto)]
+
 ghost use Rattle.std.specs.Prelude.{◌≡◌};
 ghost use Rattle.format.specs.Limits.{variants_to_a_block};
 ghost use Rattle.format.specs.Reply.{check_left, check_call, read_left, read_call, phases_call, lookup_left, lookup_call, view_left, part_of_file, view_call};

@@ -1,5 +1,7 @@
 // A way through a file that pays for one header check: a state that a start call gives, and a call for the next variant's categories. Between calls
 // the work area holds the categories of the last record that leans on none, which is the anchor of the next one that leans.
+#![tactic(auto)]
+
 ghost use Rattle.std.specs.Prelude.{◌≡◌, true, false, ◌≤◌, ◌<◌, length};
 ghost use Rattle.format.specs.Limits.{most_variants};
 ghost use Rattle.format.specs.Body.{type_leans};

@@ -1,4 +1,6 @@
 // The writer of one main-track record, in any of the seven kinds; in phased.rt, with a phase track after it.
+#![tactic(auto)]
+
 ghost use Rattle.std.specs.Prelude.{◌≡◌, ℕ, ◌≤◌, ◌<◌, length, get_or};
 ghost use Rattle.format.specs.Base.{pick};
 ghost use Rattle.format.specs.PairCode.{code_numbered};

@@ -1,4 +1,6 @@
 // The README's example: a sample's category in the file on standard input, before its variant is flipped and after.
+#![tactic(auto)]
+
 use format::{FileVariant, LookupReply, Reply};
 
 // The category of a sample as a digit, or r for a refusal.

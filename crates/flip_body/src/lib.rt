@@ -1,4 +1,6 @@
 // The body of one record flipped in place, whatever its bytes.
+#![tactic(auto)]
+
 ghost use Rattle.std.specs.Prelude.{◌≡◌, ◌+◌, ◌-◌, ◌/◌, ◌≤◌, length};
 ghost use Rattle.format.specs.Limits.{most_samples};
 ghost use Rattle.format.specs.Body.{type_leans};

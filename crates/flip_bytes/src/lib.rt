@@ -1,4 +1,6 @@
 // Packed values flipped in place by masks: categories of two bits, and bits.
+#![tactic(auto)]
+
 ghost use Rattle.std.specs.Prelude.{◌≡◌, ◌+◌, ◌/◌, ◌≤◌, ◌<◌, length};
 ghost use Rattle.flip_bytes.specs.Changed.{values_exchanged, bits_complemented};
 ghost use Rattle.flip_bytes.specs.Masks.{exchanged_by, value_mask, bit_mask};

@@ -1,5 +1,7 @@
 // The flip of a set of variants in the file's own bytes. 01, Flipping: "The flag bits and every length and offset stay. Only types and record bodies
 // may differ." Three passes over the variants: the phases of members (flip_phase); the main tracks, with the types as they were; then the types.
+#![tactic(auto)]
+
 ghost use Rattle.std.specs.Prelude.{◌≡◌, false, suc, ◌+◌, ◌%◌, ◌≤◌, ◌<◌, length, leb};
 ghost use Rattle.format.specs.Base.{pick};
 ghost use Rattle.format.specs.Limits.{most_samples, most_variants, variants_to_a_block};

@@ -1,4 +1,6 @@
 // The phase bits of members, turned where they stand (02, Ask 1): a pass of its own over a file's records, before that over their main tracks.
+#![tactic(auto)]
+
 ghost use Rattle.std.specs.Prelude.{◌≡◌, true, false, ◌&&◌, ◌≤◌, length, take};
 ghost use Rattle.format.specs.Limits.{most_variants, variants_to_a_block};
 ghost use Rattle.format.specs.Phase.{heterozygous_count};

@@ -1,5 +1,7 @@
 // What a PGEN file is made of, as values (a pair code's pair, the two variant numbers), and what the public calls answer.
 // What they mean is defined in specs/; the laws of those definitions are in proofs/.
+#![tactic(auto)]
+
 ghost use Rattle.std.specs.Prelude.{◌≡◌};
 ghost use Rattle.format.specs.Base.{refusal, named};
 ghost use Rattle.format.specs.Reply.{named_reply};

@@ -1,4 +1,6 @@
 // The fixed fields of a header, where the arrays of its blocks stand, and the checks of one block's arrays.
+#![tactic(auto)]
+
 ghost use Rattle.std.specs.Prelude.{◌≡◌, false, [], ◌+◌, ◌-◌, ◌*◌, ◌<◌, ◌≤◌, length, drop, eqb};
 ghost use Rattle.format.specs.Base.{pick, Bytes, ok};
 ghost use Rattle.format.specs.Packed.{one, four, eight, packed_size};

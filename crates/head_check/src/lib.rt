@@ -1,4 +1,6 @@
 // The header check: refusals 1 to 9 in their order, each at its place. 02, Ask 2: each names a variant, "M where no variant is concerned, 0 in 1 to 4".
+#![tactic(auto)]
+
 ghost use Rattle.std.specs.Prelude.{◌≡◌, true, false, [], ◌≤◌, length};
 ghost use Rattle.format.specs.Base.{ok, refusal};
 ghost use Rattle.format.specs.Limits.{variants_to_a_block};

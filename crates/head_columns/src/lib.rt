@@ -1,4 +1,6 @@
 // The types and the lengths of a whole file in mode 0x10, block after block: rules 8 and 9 of the header check.
+#![tactic(auto)]
+
 ghost use Rattle.std.specs.Prelude.{◌≡◌, ◌*◌, ◌<◌, ◌≤◌};
 ghost use Rattle.format.specs.Limits.{most_variants, variants_to_a_block};
 ghost use Rattle.format.specs.Layout.{Fixed};

@@ -1,4 +1,6 @@
 // Numbers of a header by index, and sums of lengths, each read from the file's bytes as the format's definitions say.
+#![tactic(auto)]
+
 ghost use Rattle.std.specs.Prelude.{◌≡◌, ◌+◌, ◌*◌, ◌^◌, ◌<◌, ◌≤◌, length, drop};
 ghost use Rattle.format.specs.Limits.{variants_to_a_block};
 ghost use Rattle.format.specs.Layout.{sum};

@@ -1,5 +1,7 @@
 // Where the record of a variant stands in a file that the header check accepts, and which variant it leans on.
 // `f` holds the fields that the check gave. All is looked up in the index; `held`, the data, is what the places are in: a file in one piece is both.
+#![tactic(auto)]
+
 ghost use Rattle.std.specs.Prelude.{◌≡◌, false};
 ghost use Rattle.format.specs.Layout.{unblocked};
 ghost use Rattle.head_places.specs.Located.{HasVariant, HasLeaner, Starts, Located, Anchored};

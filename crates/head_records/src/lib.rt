@@ -1,4 +1,6 @@
 // The type and the size of a variant's record, by index in the header's arrays. For any bytes: one past the end counts as 0.
+#![tactic(auto)]
+
 ghost use Rattle.std.specs.Prelude.{◌≡◌, false, ◌≤◌, ◌<◌, drop, get_or};
 ghost use Rattle.format.specs.Limits.{most_samples, most_variants, variants_to_a_block};
 ghost use Rattle.format.specs.Variant.{block_of};

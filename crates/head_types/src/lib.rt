@@ -1,4 +1,6 @@
 // The types of a block by index: one of them, the first that is not allowed, and the nearest that does not lean.
+#![tactic(auto)]
+
 ghost use Rattle.std.specs.Prelude.{◌≡◌, true, suc, ◌+◌, ◌/◌, ◌<◌, ◌≤◌, length, drop};
 ghost use Rattle.format.specs.Base.{pick};
 ghost use Rattle.format.specs.Packed.{four, eight, more, packed_size};

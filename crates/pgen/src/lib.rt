@@ -1,4 +1,5 @@
 // The public library: its calls, each from the crate where its code and its contract stand. None has a `requires`.
+#![tactic(auto)]
 
 // 01, Replies: "the header check and the whole-file check give mode, M, N and the form byte (0 for each on a refusal)"
 pub use call_read::check;

@@ -1,4 +1,6 @@
 // Lists a PGEN file from standard input: M and N, then for each variant its number, its type and its categories.
+#![tactic(auto)]
+
 ghost use Rattle.std.specs.Prelude.{◌≡◌, true, length};
 ghost use Rattle.format.specs.Limits.{most_samples};
 ghost use Rattle.call_rows.specs.Calls.{next_row_call};

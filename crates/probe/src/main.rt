@@ -1,5 +1,7 @@
 // Runs cases from standard input through the public calls and prints a line for each, so that any program can be compared with the library.
 // A case is a head of 33 bytes (call, x, y, and four lengths, little-endian) and two byte strings; that of a phased record has a third.
+#![tactic(auto)]
+
 mod answers;
 mod cases;
 mod lent;

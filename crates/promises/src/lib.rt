@@ -5,3 +5,4 @@
 // FlipPromises, by what ContainerPromises says of any container, and FlipCalls; byte place by byte place: KeptPlaces. A file gone through row by row:
 // RowsAreReads, by what StepIsRead says of one step; its phases too: PhasedRowsAreReads, by what PhasedSteps says of one step; one that the whole-file
 // check has accepted: CheckedRows.
+#![tactic(auto)]

@@ -1,5 +1,7 @@
 // A record's main track only checked, and its heterozygous samples counted (02, Ask 1: H), in the form in which it is stored: no row is made. Every slice `s`
 // is the file cut where the record ends, so that its length is the record's end and a place in it is a place in the file.
+#![tactic(auto)]
+
 ghost use Rattle.std.specs.Prelude.{◌≡◌, true, false, [], ◌≤◌, ◌<◌, length, replicate};
 ghost use Rattle.std.specs.Int.Count;
 ghost use Rattle.format.specs.Base.{pick};

@@ -1,6 +1,8 @@
 // A record only checked: nothing is read into a row, so nothing is left of one after a refusal. One that leans looks at the row that holds its anchor's
 // categories; another looks at no row, and may be read straight into an output once it is accepted. And the next record of a check of all. Every slice `s` is
 // the file cut where the record ends, so that its length is the record's end and a place in it is a place in the file.
+#![tactic(auto)]
+
 ghost use Rattle.std.specs.Prelude.{◌≡◌, true, false, [], ◌≤◌, ◌<◌, length};
 ghost use Rattle.format.specs.Body.{kind_of, type_leans};
 ghost use Rattle.format.specs.Limits.{most_samples};

@@ -1,5 +1,7 @@
 // The records of a file that the header check accepts: all checked in order, or one read, over its anchor if it leans, its phases too. `f` holds the fields
 // that the check gave.
+#![tactic(auto)]
+
 ghost use Rattle.std.specs.Prelude.{◌≤◌, length};
 ghost use Rattle.format.specs.Limits.{most_variants};
 ghost use Rattle.head_places.specs.Located.{Located};

@@ -1,5 +1,7 @@
 // A difference list, checked and put into a row that holds what it is against (01, Difference lists), or only checked: either is one function over
 // the number width and the rule of what a list may hold. Every slice `s` is the file cut where the record ends, so that its length is the record's end.
+#![tactic(auto)]
+
 ghost use Rattle.std.specs.Prelude.{◌≡◌, true, ◌≤◌, ◌<◌, length};
 ghost use Rattle.format.specs.Limits.{most_samples};
 ghost use Rattle.base_cursor.specs.Steps.{varint_at};

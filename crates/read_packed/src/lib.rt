@@ -1,5 +1,7 @@
 // Packed arrays, checked and unpacked. Every slice `s` is the file cut where
 // the record ends, so that its length is the record's end.
+#![tactic(auto)]
+
 ghost use Rattle.std.specs.Prelude.{◌≡◌, suc, ◌+◌, ◌-◌, ◌*◌, ◌/◌, ◌%◌, ◌≤◌, ◌<◌, ◌++◌, map, length, take, drop};
 ghost use Rattle.format.specs.Limits.{most_samples};
 ghost use Rattle.format.specs.Packed.{one, two, more, packed_size};

@@ -1,5 +1,7 @@
 // The phase track of a record: H of a row, the track checked, the track put into an output. Every slice `s` is the file cut where the record ends, so
 // that its length is the record's end.
+#![tactic(auto)]
+
 ghost use Rattle.std.specs.Prelude.{◌≡◌, suc, ◌+◌, ◌-◌, ◌/◌, ◌<◌, ◌≤◌, true, length, take};
 ghost use Rattle.format.specs.Base.{pick};
 ghost use Rattle.format.specs.Limits.{most_samples};

@@ -1,5 +1,7 @@
 // A record's body, checked and read into a row of categories (01, Categories and kinds). Every slice `s` is the file cut where the record ends,
 // so that its length is the record's end and a place in it is a place in the file.
+#![tactic(auto)]
+
 ghost use Rattle.std.specs.Prelude.{◌≡◌, true, ◌≤◌, ◌<◌, length, take, drop};
 ghost use Rattle.format.specs.Phase.{heterozygous_count, read_phase_track};
 ghost use Rattle.format.specs.Body.{kind_of, type_phased};

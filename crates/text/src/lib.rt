@@ -1,5 +1,7 @@
 // Text for standard output, gathered in a lent buffer so that it leaves in large writes. Each function takes the buffer and how much of it is
 // filled, and gives how much is filled then; nothing here fails, and what is written is tested, not proved.
+#![tactic(auto)]
+
 use libc::STDOUT_FILENO;
 
 // One byte more; a full buffer is written out first.

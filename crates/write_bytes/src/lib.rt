@@ -1,4 +1,6 @@
 // Bytes written into a lent output: varints, numbers of so many bytes, packed arrays.
+#![tactic(auto)]
+
 ghost use Rattle.std.specs.Prelude.{◌≡◌, suc, ◌+◌, ◌≤◌, ◌<◌, ◌^◌, [], ◌∷◌, length, get_or, drop};
 ghost use Rattle.format.specs.Base.{Below};
 ghost use Rattle.format.specs.Varint.{varint_bytes};

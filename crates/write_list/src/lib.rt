@@ -1,4 +1,6 @@
 // A difference list measured and written: its count, the parts that are written entry by entry, and its values.
+#![tactic(auto)]
+
 ghost use Rattle.std.specs.Prelude.{◌≡◌, ◌+◌, ◌*◌, ◌≤◌, ◌<◌, length};
 ghost use Rattle.format.specs.Limits.{most_samples};
 ghost use Rattle.format.specs.Difflist.{number_width, list_bytes};

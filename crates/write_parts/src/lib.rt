@@ -1,5 +1,7 @@
 // A difference list against a base that stands in no buffer of its own: what it has for each sample, and the parts that are written entry by entry,
 // each in a pass of its own over the samples.
+#![tactic(auto)]
+
 ghost use Rattle.std.specs.Prelude.{◌≡◌, ◌+◌, ◌≤◌, ◌<◌, length, get_or};
 ghost use Rattle.format.specs.Limits.{most_samples};
 ghost use Rattle.format.specs.Category.{exchange_if};

@@ -1,4 +1,6 @@
 // The phase track of a record to be written: whether its phases are allowed, how many bytes it has, and its bytes.
+#![tactic(auto)]
+
 ghost use Rattle.std.specs.Prelude.{◌≡◌, ℕ, ◌+◌, ◌≤◌, ◌<◌, true, length, get_or, eqb};
 ghost use Rattle.format.specs.Limits.{most_samples};
 ghost use Rattle.format.specs.Phase.{some_unphased, gathered, phase_track_bytes};
