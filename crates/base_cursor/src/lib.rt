@@ -8,34 +8,34 @@ ghost use Rattle.base_cursor.specs.Steps.{cursor_at, byte_at, varint_rest, varin
 
 use format::{Refusal, refusal_at};
 
-#[derive(Drop)]
+#[derive(Clone, Copy)]
 pub struct Cursor {
     pub at: usize,
 }
 
 // A byte with the next cursor, or a refusal.
-#[derive(Drop)]
+#[derive(Clone, Copy)]
 pub enum ByteStep {
     Byte(u8, Cursor),
     Refused(Refusal),
 }
 
 // A varint's value with the next cursor, or a refusal.
-#[derive(Drop)]
+#[derive(Clone, Copy)]
 pub enum VarintStep {
     Value(usize, Cursor),
     Refused(Refusal),
 }
 
 // The value of a varint of one byte or two, in its shortest form, with the next cursor; or that none stands there.
-#[derive(Drop)]
+#[derive(Clone, Copy)]
 pub enum ShortStep {
     Short(usize, Cursor),
     NotShort,
 }
 
 // A number of some bytes, with the next cursor.
-#[derive(Drop)]
+#[derive(Clone, Copy)]
 pub struct NumberStep {
     pub value: usize,
     pub next: Cursor,

@@ -25,7 +25,7 @@ use crate::next::next_record;
 pub use phased::next_phased_row;
 
 // The next variant, where its record starts, and the refusal of the last record that leans on none, which names it: number 0 if it was accepted.
-#[derive(Drop)]
+#[derive(Clone, Copy)]
 pub struct Rows {
     pub fields: Fields,
     pub variant: FileVariant,
@@ -34,14 +34,14 @@ pub struct Rows {
 }
 
 // What a start call gives.
-#[derive(Drop)]
+#[derive(Clone, Copy)]
 pub enum RowsReply {
     Started(Rows),
     Refused(Refusal),
 }
 
 // What the next call gives: its reply, and the state moved on.
-#[derive(Drop)]
+#[derive(Clone, Copy)]
 pub struct RowStep {
     pub rows: Rows,
     pub reply: Reply,

@@ -20,7 +20,7 @@ use write_parts::Base;
 pub mod phased;
 
 // 01, Categories and kinds: what a kind and a pair code ask for. Kind 0, "the packed array"; kind 1, a pair's bits and list; the others, a list.
-#[derive(Drop)]
+#[derive(Clone, Copy)]
 pub enum Asked {
     Array,
     Pair(Pair),
@@ -29,7 +29,7 @@ pub enum Asked {
 }
 
 // A record that may be written, or why not.
-#[derive(Drop)]
+#[derive(Clone, Copy)]
 pub enum Checked {
     Allowed(Asked),
     Refused(Refusal),

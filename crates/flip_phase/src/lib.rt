@@ -25,7 +25,7 @@ use read_phase::{first_count, heterozygous_count, phased_count, presence_stored}
 use read_record::read_track;
 
 // Where a record's main track ends, and how many of its samples are heterozygous.
-#[derive(Drop)]
+#[derive(Clone, Copy)]
 pub struct Main {
     pub end: Cursor,
     pub count: usize,

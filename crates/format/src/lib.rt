@@ -7,7 +7,7 @@ ghost use Rattle.format.specs.Base.{refusal, named};
 ghost use Rattle.format.specs.Reply.{named_reply};
 
 // 01, Categories and kinds: a pair code, its two categories, its code once 0 and 2 are exchanged, and whether that turns the pair's order.
-#[derive(Drop)]
+#[derive(Clone, Copy)]
 pub struct Pair {
     pub code: u8,
     pub lower: u8,
@@ -17,7 +17,7 @@ pub struct Pair {
 }
 
 // The pair that a code byte stands for, or that it is none of the six.
-#[derive(Drop)]
+#[derive(Clone, Copy)]
 pub enum PairFound {
     Known(Pair),
     Unknown,
@@ -33,27 +33,27 @@ pub const VARIANTS_TO_A_BLOCK: usize = 65536;
 
 // 01, The header: "A variant's number in the file and its number within its block are two counts, and the second restarts at 0 on variant 65,536;
 // no interface lets one stand for the other."
-#[derive(Drop)]
+#[derive(Clone, Copy)]
 pub struct FileVariant(pub usize);
 
-#[derive(Drop)]
+#[derive(Clone, Copy)]
 pub struct BlockVariant(pub usize);
 
 // The first variant of a block, or of a file, that is looked for; or that there is none: no number past the last stands for that.
-#[derive(Drop)]
+#[derive(Clone, Copy)]
 pub enum FoundInBlock {
     At(BlockVariant),
     Nowhere,
 }
 
-#[derive(Drop)]
+#[derive(Clone, Copy)]
 pub enum FoundInFile {
     At(FileVariant),
     Nowhere,
 }
 
 // 01, The header: "Bytes 0 to 2: 0x6c 0x1b and the mode. Bytes 3 to 6: M. Bytes 7 to 10: N. Byte 11: the form." All but the first two, read once.
-#[derive(Drop)]
+#[derive(Clone, Copy)]
 pub struct Fields {
     pub mode: u8,
     pub variants: usize,
@@ -62,7 +62,7 @@ pub struct Fields {
 }
 
 // Demand 1: "A refusal has a number and a place." 02, Ask 2: "let every reply carry a variant number besides the place".
-#[derive(Drop)]
+#[derive(Clone, Copy)]
 pub struct Refusal {
     pub number: u8,
     pub place: usize,
@@ -95,14 +95,14 @@ pub fn named(variant: FileVariant, why: Refusal) -> Refusal
 }
 
 // 01, Replies: what a header check and a whole-file check give.
-#[derive(Drop)]
+#[derive(Clone, Copy)]
 pub enum HeaderReply {
     Accepted(Fields),
     Refused(Refusal),
 }
 
 // What a read and a flip give.
-#[derive(Drop)]
+#[derive(Clone, Copy)]
 pub enum Reply {
     Accepted,
     Refused(Refusal),
@@ -119,14 +119,14 @@ pub fn named_reply(variant: FileVariant, reply: Reply) -> Reply
 }
 
 // What a lookup gives.
-#[derive(Drop)]
+#[derive(Clone, Copy)]
 pub enum LookupReply {
     Category(u8),
     Refused(Refusal),
 }
 
 // What the writer gives.
-#[derive(Drop)]
+#[derive(Clone, Copy)]
 pub enum WriteReply {
     Count(usize),
     Refused(Refusal),

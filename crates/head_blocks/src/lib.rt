@@ -50,7 +50,7 @@ pub fn fixed_size(f: Fields) -> usize
 
 // 01: how the arrays of mode 0x10 are stored: those of the first block start at `at`, those of each next `full` bytes further; types of 4 bits if `half`,
 // else of 8; lengths of `width` bytes; a flag bit per variant if `stored`.
-#[derive(Drop)]
+#[derive(Clone, Copy)]
 pub struct Blocks {
     pub at: usize,
     pub full: usize,
@@ -147,7 +147,7 @@ pub fn flags_clear(file: &[u8], place: usize, n: usize, stored: bool) -> bool
 }
 
 // Whether a look at unused bits finds none set, or the byte that has one.
-#[derive(Drop)]
+#[derive(Clone, Copy)]
 pub enum Unused {
     Clear,
     At(usize),

@@ -88,7 +88,7 @@ fn check_ends(file: &[u8], f: Fields, b: Blocks) -> HeaderReply
 }
 
 // What a rule finds: nothing, or why the file is refused.
-#[derive(Drop)]
+#[derive(Clone, Copy)]
 pub enum Found {
     Nothing,
     Refused(Refusal),

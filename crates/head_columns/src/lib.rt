@@ -60,7 +60,7 @@ pub fn bad_type(file: &[u8], m: usize, b: Blocks) -> FoundInFile
 }
 
 // Where the records of a file end, or the number of the first block whose offset is not where its first record starts.
-#[derive(Drop)]
+#[derive(Clone, Copy)]
 pub enum Ends {
     WrongOffset(usize),
     RecordsEnd(u64),

@@ -14,7 +14,7 @@ use head_records::{lengths_place, size_of, type_of};
 use head_types::nearest_before;
 
 // A record's bytes are those from `start` to `end`.
-#[derive(Drop)]
+#[derive(Clone, Copy)]
 pub struct Place {
     pub start: usize,
     pub end: usize,

@@ -3,7 +3,7 @@ ghost use Rattle.std.specs.Prelude.{◌<◌, ◌≤◌};
 
 use crate::lent::{MOST_FIRST, MOST_LENT};
 
-#[derive(Drop)]
+#[derive(Clone, Copy)]
 pub struct Case {
     pub call: usize,
     pub x: usize,

@@ -4,7 +4,7 @@ use format::{
 };
 
 // How much of the buffer is filled, and the variant of the reply that the line tells.
-#[derive(Drop)]
+#[derive(Clone, Copy)]
 pub struct Line {
     pub filled: usize,
     pub named: FileVariant,

@@ -27,14 +27,14 @@ use crate::list::{count_leaning, count_list};
 
 // What a list is against where it is walked to be counted: a row's categories; the categories of a pair, the lower and the higher, that the bits from a place
 // on stand for.
-#[derive(Drop)]
+#[derive(Clone, Copy)]
 pub enum StoredBase {
     Row,
     Bits(usize, u8, u8),
 }
 
 // The cursor after a main track or a list, with H of the row that it makes, or a refusal.
-#[derive(Drop)]
+#[derive(Clone, Copy)]
 pub enum CallsStep {
     Counted(Cursor, usize),
     Refused(Refusal),
@@ -42,7 +42,7 @@ pub enum CallsStep {
 
 // Where a walk through the entries of a list is, with how many are still to come, and the heterozygous samples so far: those that there were or that the list
 // brought, and those that the list took.
-#[derive(Drop)]
+#[derive(Clone, Copy)]
 pub struct Tally {
     pub st: State,
     pub more: usize,

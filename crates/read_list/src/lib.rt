@@ -23,14 +23,14 @@ pub mod values;
 use crate::entry::put_entries;
 
 // 01, Categories and kinds: "No list holds a value it need not": none in the pair, or none that the row has for that sample.
-#[derive(Drop)]
+#[derive(Clone, Copy)]
 pub enum ListRule {
     OffPair(u8, u8),
     OffRow,
 }
 
 // The cursor after a list, or a refusal.
-#[derive(Drop)]
+#[derive(Clone, Copy)]
 pub enum ListStep {
     Listed(Cursor),
     Refused(Refusal),
@@ -38,7 +38,7 @@ pub enum ListStep {
 
 // Where the walk through the entries is: `room` entries are still to come in this group, whose steps start at `from`; `last` is the sample
 // before; the next head, size byte and step stand at `head`, `size` and `at`; `passed` entries have been passed.
-#[derive(Drop)]
+#[derive(Clone, Copy)]
 pub struct State {
     pub room: usize,
     pub from: Cursor,
@@ -50,14 +50,14 @@ pub struct State {
 }
 
 // Such a place, with how many entries are still to come in the list.
-#[derive(Drop)]
+#[derive(Clone, Copy)]
 pub struct Walk {
     pub st: State,
     pub more: usize,
 }
 
 // Steps of a byte or two that stand one after another: how many, the bytes that they take, and what they come to.
-#[derive(Drop)]
+#[derive(Clone, Copy)]
 pub struct StepRun {
     pub count: usize,
     pub size: usize,
@@ -65,21 +65,21 @@ pub struct StepRun {
 }
 
 // The place after an entry's sample or value, or a refusal.
-#[derive(Drop)]
+#[derive(Clone, Copy)]
 pub enum EntryStep {
     On(State),
     Refused(Refusal),
 }
 
 // A list's count with the cursor after it, or a refusal.
-#[derive(Drop)]
+#[derive(Clone, Copy)]
 pub enum CountStep {
     Of(usize, Cursor),
     Refused(Refusal),
 }
 
 // Where a list's values start, with the place before its first entry, or a refusal.
-#[derive(Drop)]
+#[derive(Clone, Copy)]
 pub enum PartsStep {
     Fits { values: usize, first: State },
     Refused(Refusal),

@@ -13,14 +13,14 @@ use base_cursor::Cursor;
 use format::{Refusal, refusal_at};
 
 // How many bits a number of an array has.
-#[derive(Drop)]
+#[derive(Clone, Copy)]
 pub enum Width {
     One,
     Two,
 }
 
 // The cursor after an array, or a refusal.
-#[derive(Drop)]
+#[derive(Clone, Copy)]
 pub enum PackedStep {
     Next(Cursor),
     Refused(Refusal),

@@ -12,14 +12,14 @@ ghost use Rattle.write_bytes.specs.Arrays.{width, numbers, array_bytes, array_by
 ghost use Rattle.write_bytes.specs.InTurn.{last_byte, PackingFits, PackedOn};
 
 // 01, Categories and kinds: the two arrays of a record. Kind 0, "the packed array"; kind 1, "a bit per sample (set: the higher category of the pair)".
-#[derive(Drop)]
+#[derive(Clone, Copy)]
 pub enum Array {
     Categories,
     Bits { higher: u8 },
 }
 
 // Where the packing of numbers one after another is: the byte at hand, the weight of the next number in it, and its place.
-#[derive(Drop)]
+#[derive(Clone, Copy)]
 pub struct Packing {
     pub scale: usize,
     pub byte: usize,

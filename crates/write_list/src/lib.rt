@@ -17,7 +17,7 @@ use write_bytes::{Packing, end_packed, put_packed, put_varint, varint_size};
 use write_parts::{Base, Group, Part, Sample, advance, put_part, sample_at};
 
 // How many entries there are so far, and how many bytes their steps have.
-#[derive(Drop)]
+#[derive(Clone, Copy)]
 pub struct Counted {
     pub group: Group,
     pub count: usize,
@@ -25,7 +25,7 @@ pub struct Counted {
 }
 
 // A list's count and its size in bytes.
-#[derive(Drop)]
+#[derive(Clone, Copy)]
 pub struct ListSize {
     pub count: usize,
     pub bytes: usize,

@@ -13,7 +13,7 @@ use write_bytes::{put_number, put_varint, varint_size};
 
 // 01, Categories and kinds: what a list is against. Kinds 4, 6 and 7: "the samples outside category 0, 2, 3"; kinds 2 and 3: "against the anchor",
 // 3 inverted; kind 1: "samples in the other two categories".
-#[derive(Drop)]
+#[derive(Clone, Copy)]
 pub enum Base {
     Category(u8),
     Anchor { inverted: bool },
@@ -21,14 +21,14 @@ pub enum Base {
 }
 
 // A sample's value, were it listed, and its base's. It is listed where they differ.
-#[derive(Drop)]
+#[derive(Clone, Copy)]
 pub struct Sample {
     pub value: u8,
     pub base: u8,
 }
 
 // The parts that are written entry by entry.
-#[derive(Drop)]
+#[derive(Clone, Copy)]
 pub enum Part {
     Heads,
     Sizes,
@@ -37,7 +37,7 @@ pub enum Part {
 
 // Where a pass is: `room` entries are still to come in the group, whose varints so far have `size` bytes; `before` is the sample before, and
 // `begun` is 1 after the first entry.
-#[derive(Drop)]
+#[derive(Clone, Copy)]
 pub struct Group {
     pub room: usize,
     pub size: usize,
@@ -45,7 +45,7 @@ pub struct Group {
     pub begun: usize,
 }
 
-#[derive(Drop)]
+#[derive(Clone, Copy)]
 pub struct Moved {
     pub group: Group,
     pub at: usize,

@@ -15,14 +15,14 @@ use write_bytes::{Packing, end_packed, put_packed};
 
 // 02, Ask 1: the two parts of a track. "The track's first bit says whether H presence bits follow it at once"; "The phase bits begin at the next byte
 // boundary, one per phased call".
-#[derive(Drop)]
+#[derive(Clone, Copy)]
 pub enum TrackPart {
     PresenceBits,
     PhaseBits,
 }
 
 // Whether presence bits are stored, and the track's size in bytes.
-#[derive(Drop)]
+#[derive(Clone, Copy)]
 pub struct TrackSize {
     pub stored: bool,
     pub bytes: usize,
