@@ -1,0 +1,14 @@
+-- `write_bytes::packed_number` meets its contract: a category or a bit, and 0 past the last sample.
+-- Assumes nothing.
+use borrow.Author.Rules.{rules}
+use Rattle.write_bytes.proofs.ArrayLaws.{number_at_laws}
+use Rattle.write_bytes.proofs.packed_number.Goals as goal
+
+pub returns-then-category-higher : goal.returns-then-category-higher
+returns-then-category-higher c = search (number_at_laws, rules)
+
+pub returns-in-Categories : goal.returns-in-Categories
+returns-in-Categories c = search (number_at_laws, rules)
+
+pub returns-else-category-higher : goal.returns-else-category-higher
+returns-else-category-higher c = search (number_at_laws, rules)
