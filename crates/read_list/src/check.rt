@@ -8,7 +8,7 @@ ghost use Rattle.read_list.specs.Runs.{AllOff};
 ghost use Rattle.read_list.specs.Entries.{Against, check_entry, check_entries};
 ghost use Rattle.read_list.specs.Checked.{checked};
 
-use crate::entry::{check_value, may_hold, next_head, take_step};
+use crate::entry::{check_value, may_hold, next_sample};
 use crate::run::{after_run, lesser, run_of, walked};
 use crate::values::values_off;
 use crate::{
@@ -30,11 +30,7 @@ fn check_entry(
     requires passed_in_bounds { values + st.passed / 4 < length s.now }
     ensures { result ≡ check_entry s.now n values held st row.now }
 {
-    let got = if st.room == 0 {
-        next_head(s, n, st)
-    } else {
-        take_step(s, n, st)
-    };
+    let got = next_sample(s, n, st);
     match got {
         EntryStep::Refused(why) => EntryStep::Refused(why),
         EntryStep::On(next) => check_value(s, values, held, next, row),

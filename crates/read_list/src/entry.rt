@@ -7,7 +7,7 @@ ghost use Rattle.base_cursor.specs.Steps.{varint_at};
 ghost use Rattle.read_list.specs.declared.EntryStep.TheVariants.{On};
 ghost use Rattle.read_list.specs.Room.{Room, EntryReady};
 ghost use Rattle.read_list.specs.Walked.{Putting};
-ghost use Rattle.read_list.specs.Entries.{allows, Against, take_head, take_step, next_head, check_value};
+ghost use Rattle.read_list.specs.Entries.{allows, Against, take_head, take_step, next_head, next_sample, check_value};
 ghost use Rattle.read_list.specs.Entries.{turn, put_entry, list_left, Lists, put_entries};
 
 use crate::known::put_known_steps;
@@ -106,6 +106,17 @@ pub fn next_head(s: &[u8], n: usize, st: State) -> EntryStep
     take_head(s, n, least, size, st)
 }
 
+// The sample of the next entry: the head of the next group, or a step in the same group.
+pub fn next_sample(s: &[u8], n: usize, st: State) -> EntryStep
+    requires { EntryReady s.now n st }
+    ensures { result ≡ next_sample s.now n st }
+{
+    if st.room == 0 {
+        return next_head(s, n, st);
+    }
+    take_step(s, n, st)
+}
+
 // The value of the entry whose sample is st.last, looked at. Samples rise, so the row still has there what the list is against.
 pub fn check_value(s: &[u8], values: usize, held: ListRule, st: State, row: &[u8]) -> EntryStep
     requires passed_in_bounds { (values + st.passed / 4 < length s.now) × (st.passed < most_samples) }
@@ -135,11 +146,7 @@ fn put_entry(
     requires passed_in_bounds { values + st.passed / 4 < length s.now }
     ensures { turn result row.new ≡ put_entry s.now n values held st row.old }
 {
-    let got = if st.room == 0 {
-        next_head(s, n, st)
-    } else {
-        take_step(s, n, st)
-    };
+    let got = next_sample(s, n, st);
     match got {
         EntryStep::Refused(why) => EntryStep::Refused(why),
         EntryStep::On(next) => {

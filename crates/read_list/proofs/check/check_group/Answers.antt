@@ -1,0 +1,8 @@
+-- `read_list::check::check_group` meets its contract.
+-- Assumes nothing.
+use borrow.Author.Rules.{rules}
+use Rattle.read_list.proofs.RunWalks.{group_laws}
+use Rattle.read_list.proofs.check.check_group.Goals as goal
+
+pub returns : goal.returns
+returns c = search (group_laws, rules)
