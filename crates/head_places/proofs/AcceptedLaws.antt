@@ -13,7 +13,7 @@ use Rattle.format.specs.declared.FileVariant.{FileVariant}
 use Rattle.format.specs.declared.Fields.{Fields}
 use Rattle.format.specs.Limits.{most_samples, most_variants}
 use Rattle.format.specs.Variant.{anchor}
-use Rattle.format.specs.Layout.{unblocked, fixed_size, first_record, Layout, record_start}
+use Rattle.format.specs.Layout.{Fixed, unblocked, fixed_size, first_record, Layout, record_start}
 use Rattle.head_index.specs.Stored.{Stored}
 use Rattle.head_index.proofs.StoredLaws.{stored_one}
 use Rattle.head_index.proofs.StartLaws.{unblocked_start, stored_inside, record_end}
@@ -91,7 +91,7 @@ module _ {index held : List ℕ} {f : Fields} {v : FileVariant} (h : HasVariant 
       let mode : unblocked l.mode ≡ true = ap (λ (x : Fields). unblocked x.mode) (sym h.has.fields_are) ∙ holds u e in
       record {
         has = h.has;
-        is = rw (d, z, same) (sym (unblocked_start 65536 v l h.has.stored.obeys mode (omega (arith, below_in h.has h.below))));
+        is = rw (d ∙ ap (λ (x : Fixed). first_record 65536 x) same, z ∙ ap (λ (x : Fixed). fixed_size x) same) (sym (unblocked_start 65536 v l h.has.stored.obeys mode (omega (arith, below_in h.has h.below))));
       }
 
 pub ruleset start_laws = (fails, variants_few, samples_few, records_fit, same_start_fits, same_start)

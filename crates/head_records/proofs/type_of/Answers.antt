@@ -1,0 +1,11 @@
+-- `head_records::type_of` meets its contract.
+-- Assumes nothing.
+use borrow.Author.Rules.{rules}
+use Rattle.head_records.proofs.ReadLaws.{mode_laws}
+use Rattle.head_records.proofs.type_of.Goals as goal
+
+pub returns-then-is_unblocked : goal.returns-then-is_unblocked
+returns-then-is_unblocked c = search (mode_laws, rules)
+
+pub returns : goal.returns
+returns c = search (mode_laws, rules)
