@@ -1,0 +1,11 @@
+-- `read_phase::ones_in` meets its contract.
+-- Assumes nothing.
+use borrow.Author.Rules.{rules}
+use Rattle.read_phase.proofs.OnesLaws.{ones_laws}
+use Rattle.read_phase.proofs.ones_in.Goals as goal
+
+pub loop-i-preserved : goal.loop-i-preserved
+loop-i-preserved c = search (ones_laws, rules)
+
+pub returns : goal.returns
+returns c = search (ones_laws, rules)
