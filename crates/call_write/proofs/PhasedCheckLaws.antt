@@ -7,10 +7,9 @@ use native.Mathlib.Nat.{zero-add, add-zero}
 use mathlib.Core.Bool.{Bool, true, false}
 use mathlib.Core.List.{List, [], ◌∷◌}
 use lib.ListN.{length}
-use lib.Dec.{eqb}
 use borrow.Author.Tests.{eq-eqb, ne_eqb}
 use Rattle.format.specs.declared.Refusal.{Refusal}
-use Rattle.format.specs.Base.{pick, Out, ok, refused, refusal, refuse, need}
+use Rattle.format.specs.Base.{pick, Out, ok, refusal, refuse, need}
 use Rattle.format.specs.Phase.{first_of, rest_of}
 use Rattle.format.specs.Writer.{phase_allowed, need_phases}
 use Rattle.write_phase.specs.Calls.{first_not_allowed}

@@ -3,12 +3,12 @@
 use mathlib.Core.Path.{◌≡◌, ap, ◌∙◌, subst}
 use Prim.Native.Nat.{ℕ, ◌+◌, ◌≤◌}
 use native.Mathlib.Omega.{arith}
-use mathlib.Core.List.{List, [], ◌++◌}
+use mathlib.Core.List.{List, []}
 use lib.ListN.{length, take, drop, length-append, length-drop}
 use Rattle.format.specs.declared.Refusal.{Refusal}
 use Rattle.format.specs.declared.WriteReply.TheVariants as write
 use Rattle.format.specs.Base.{Out, ok, map_out}
-use Rattle.format.specs.Body.{Reading, read_body, body_reading}
+use Rattle.format.specs.Body.{read_body, body_reading}
 use Rattle.format.specs.Writer.{write_phased}
 use Rattle.format.proofs.Rules.{Holds}
 use Rattle.format.proofs.Refuses.{Refuses}

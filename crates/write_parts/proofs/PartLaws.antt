@@ -100,7 +100,8 @@ part_start part width b anchor categories to at f h = record { fits = fits_start
 
 module _ {part : Part} {width : ℕ} {b : Base} {anchor categories to₀ : List ℕ} {at : ℕ} {to : List ℕ} {group : Group} {place i : ℕ}
     (v : Going part width b anchor categories to₀ at to group place i) where
-  module _ (base value : ℕ) (ev : value ≡ get_or (row b categories) i 0) (eb : base ≡ get_or (base_row b anchor categories) i 0) (h : i < length categories) where
+  module _ (base value : ℕ) (ev : value ≡ get_or (row b categories) i 0) (eb : base ≡ get_or (base_row b anchor categories) i 0)
+      (h : i < length categories) where
     abbrev out : List ℕ
     out = sample_bytes part width base value group i
 

@@ -1,7 +1,7 @@
 -- Which phases are allowed: the flat loop, and the first that is not.
 -- Assumes nothing.
 use mathlib.Core.Path.{◌≡◌, refl, sym, ap, ◌∙◌}
-use Prim.Native.Nat.{ℕ, zero, suc, ◌+◌, ◌≤◌, ◌<◌}
+use Prim.Native.Nat.{ℕ, suc, ◌+◌, ◌≤◌, ◌<◌}
 use native.Mathlib.Omega.{arith}
 use native.Mathlib.Nat.{zero-add}
 use native.Mathlib.Numerals.{add-one}
@@ -9,10 +9,10 @@ use mathlib.Core.Bool.{Bool, true, false, not}
 use mathlib.Core.List.{List, [], ◌∷◌}
 use lib.ListN.{length, get_or, drop, drop_of_length-le}
 use lib.Seq.{drop-cons}
-use lib.Dec.{eqb, ltb}
+use lib.Dec.{eqb}
 use borrow.Author.Tests.{lt-ltb, le-ltb, eq-eqb, ne_eqb, not-true, not-false}
 use Rattle.format.specs.Base.{pick}
-use Rattle.format.specs.Phase.{heterozygous, first_of, rest_of}
+use Rattle.format.specs.Phase.{heterozygous}
 use Rattle.format.specs.Writer.{phase_allowed}
 use Rattle.format.proofs.Rules.{split}
 use Rattle.write_phase.specs.Calls.{first_not_allowed}

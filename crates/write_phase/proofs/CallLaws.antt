@@ -1,19 +1,16 @@
 -- The bits of a call, and of a row's calls: what is counted, and what is packed one after another, is the format's track.
 -- Assumes nothing.
-use mathlib.Core.Path.{◌≡◌, refl, sym, ap, ◌∙◌}
-use Prim.Native.Nat.{ℕ, zero, suc, ◌+◌, ◌/◌, ◌≤◌, ◌<◌}
+use mathlib.Core.Path.{◌≡◌, refl, sym, ◌∙◌}
+use Prim.Native.Nat.{ℕ, ◌+◌, ◌≤◌, ◌<◌}
 use native.Mathlib.Omega.{arith}
 use native.Mathlib.Numerals.{add-one}
-use mathlib.Core.Bool.{Bool, true, false, not, ◌&&◌, ◌||◌}
-use mathlib.Core.List.{List, [], ◌∷◌, ◌++◌, map}
-use lib.ListN.{length, get_or, drop, length-append, length-map, drop_of_length-le}
+use mathlib.Core.Bool.{Bool, true, false, not}
+use mathlib.Core.List.{List, [], ◌++◌}
+use lib.ListN.{length, get_or, drop, length-append, drop_of_length-le}
 use lib.Seq.{drop-cons}
 use lib.Dec.{eqb}
 use borrow.Author.Tests.{eq-eqb, ne_eqb, not-true, not-false}
-use Rattle.format.specs.Base.{pick}
-use Rattle.format.specs.Track.{bit_number}
-use Rattle.format.specs.Phase.{heterozygous, is_phased, presence_bits, phase_bits, some_unphased, first_of, rest_of, gathered}
-use Rattle.write_bytes.specs.declared.Packing.{Packing}
+use Rattle.format.specs.Phase.{heterozygous}
 use Rattle.write_phase.specs.Calls.{has_bit, call_bit, call_bits, calls_bits, begun}
 use Rattle.write_phase.specs.declared.TrackPart.{TrackPart}
 use Rattle.write_phase.specs.declared.TrackPart.TheVariants as part

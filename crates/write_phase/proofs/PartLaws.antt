@@ -7,7 +7,6 @@ use mathlib.Core.Bool.{Bool, true, false, not}
 use mathlib.Core.List.{List, [], ◌∷◌, ◌++◌}
 use lib.ListN.{length, get_or}
 use borrow.Author.Tests.{not-true, not-false}
-use Rattle.format.specs.Base.{pick}
 use Rattle.format.specs.Packed.{one, packed}
 use Rattle.format.proofs.Rules.{by_test}
 use Rattle.write_bytes.specs.Written.{Wrote}

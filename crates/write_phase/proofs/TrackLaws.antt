@@ -1,12 +1,11 @@
 -- The track: its size, and its two parts one after another.
 -- Assumes nothing.
 use mathlib.Core.Path.{◌≡◌, refl, sym, ap, ◌∙◌}
-use Prim.Native.Nat.{ℕ, zero, suc, ◌+◌, ◌/◌, ◌≤◌, ◌<◌}
+use Prim.Native.Nat.{ℕ, suc, ◌+◌, ◌/◌, ◌≤◌, ◌<◌}
 use native.Mathlib.Omega.{arith}
 use mathlib.Core.Bool.{Bool, true, false, not, ◌&&◌, ◌||◌}
-use mathlib.Core.List.{List, [], ◌∷◌, ◌++◌, map}
+use mathlib.Core.List.{List, [], ◌∷◌, ◌++◌}
 use lib.ListN.{length, set, length-append, length-map}
-use lib.Dec.{eqb}
 use Rattle.format.specs.Base.{pick}
 use Rattle.format.specs.Limits.{most_samples}
 use Rattle.format.specs.Packed.{one, byte_of, packed_after, packed}
@@ -17,10 +16,8 @@ use Rattle.format.proofs.Rules.{by_test}
 use Rattle.format.proofs.PackedLaws.{packed_length}
 use Rattle.write_bytes.specs.Written.{Wrote}
 use Rattle.write_bytes.proofs.WrittenLaws.{wrote_both, wrote_length}
-use Rattle.write_phase.specs.Calls.{call_bits, calls_bits, part_bytes, first_bytes, TrackSizeOf}
-use Rattle.write_phase.specs.declared.TrackPart.{TrackPart}
+use Rattle.write_phase.specs.Calls.{calls_bits, part_bytes, first_bytes, TrackSizeOf}
 use Rattle.write_phase.specs.declared.TrackPart.TheVariants as part
-use Rattle.write_phase.specs.declared.TrackSize.{TrackSize}
 
 -- ---- the bits of a row's calls are those of its phases
 

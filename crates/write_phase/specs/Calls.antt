@@ -1,6 +1,6 @@
 -- The phase track as it is written, call by call.
 -- Assumes nothing.
-use Rattle.std.specs.Prelude.{◌≡◌, ℕ, suc, ◌≤◌, Bool, true, false, ◌&&◌, List, [], ◌∷◌, ◌++◌, length}
+use Rattle.std.specs.Prelude.{◌≡◌, ℕ, suc, ◌≤◌, Bool, ◌&&◌, List, [], ◌∷◌, ◌++◌, length}
 use Rattle.format.specs.Base.{pick}
 use Rattle.format.specs.Limits.{most_samples}
 use Rattle.format.specs.Packed.{one, packed}
