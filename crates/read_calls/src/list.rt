@@ -12,7 +12,7 @@ ghost use Rattle.read_calls.specs.Counted.{counted_left, counted};
 use crate::{CallsStep, StoredBase, Tally};
 use base_calls::call_count;
 use base_cursor::{Cursor, ShortStep};
-use read_list::entry::{check_value, may_hold, next_head, take_step};
+use read_list::entry::{check_value, may_hold, next_sample};
 use read_list::{CountStep, EntryStep, ListRule, PartsStep, State, lay_parts, read_count};
 use read_packed::{of_pair, one_bit, two_bits};
 
@@ -103,11 +103,7 @@ fn count_entry(
     requires passed_in_bounds { values + st.passed / 4 < length s.now }
     ensures { result ≡ check_entry s.now n values held st row.now }
 {
-    let got = if st.room == 0 {
-        next_head(s, n, st)
-    } else {
-        take_step(s, n, st)
-    };
+    let got = next_sample(s, n, st);
     match got {
         EntryStep::Refused(why) => EntryStep::Refused(why),
         EntryStep::On(next) => check_value(s, values, held, next, row),
