@@ -116,11 +116,11 @@ pub ruleset width_laws = (room_as, wrote_as)
 
 -- ---- how much there is at most
 
-listed_few : (i : ℕ) (base_list row_List : List ℕ) → length (differences i base_list row_List) ≤ length base_list
+listed_few : (i : ℕ) (base_list row_list : List ℕ) → length (differences i base_list row_list) ≤ length base_list
 unfolding differences
-listed_few i [] row_List = omega arith
+listed_few i [] row_list = omega arith
 listed_few i (b ∷ base_list) [] = omega arith
-listed_few i (b ∷ base_list) (c ∷ row_List) = go (eqb c b) (differences (suc i) base_list row_List) (listed_few (suc i) base_list row_List)
+listed_few i (b ∷ base_list) (c ∷ row_list) = go (eqb c b) (differences (suc i) base_list row_list) (listed_few (suc i) base_list row_list)
   where
     go : (same : Bool) (es : List Entry) → length es ≤ length base_list → length (unless same (record { sample = i; value = c }) es) ≤ suc (length base_list)
     go true es h = omega arith
