@@ -147,7 +147,7 @@ module _ (K : ℕ) (p : zero < K) where
     flip_obeys = λ member f h. flip_obeys K member f h;
     flip_variants = λ member f h. flip_count member (file_variant 0) false f.bodies;
     flip_row = λ member f h v l. row_flips member f v;
-    exchange_none = λ row. exchange_reading_none row;
+    exchange_none = λ row. search exchange_reading_none;
     flip_just_one = λ m m' f h. ap (file_of (layout_of_file f)) (flip_bodies_twice m m' (file_variant 0) false false f.bodies);
     flip_none = λ f h. ap (file_of (layout_of_file f)) (flip_bodies_none (file_variant 0) f.bodies);
   }

@@ -19,7 +19,7 @@ unfolding read_varint_within varint_within varint_limit
 within_read_back end first zero least n left l h = simp (lt-ltb n 16, le-leb least n)
 within_read_back end first (suc more) least n left l h =
     by_test (λ (bs : List ℕ). read_varint_within end first (suc more) least (bs ++ left) ≡ ok n left) (ltb n 128)
-    (λ t. simp (t, le-leb least n))
+    (λ t. simp (t, le-leb least n, le-leb 0 n zero-le))
     (λ t.
     let g : 128 ≤ n = ltb-false n 128 t in
     let ih : read_varint_within end first more 1 (varint_within more (n / 128) ++ left) ≡ ok (n / 128) left
