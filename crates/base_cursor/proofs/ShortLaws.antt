@@ -20,7 +20,7 @@ use Rattle.base_cursor.specs.declared.ShortStep.{ShortStep}
 use Rattle.base_cursor.specs.declared.ShortStep.TheVariants.{Short, NotShort}
 use Rattle.base_cursor.proofs.ByteLaws.{here, byte_there, byte_short}
 use Rattle.base_cursor.proofs.VarintLaws.{value_past}
-use Rattle.base_cursor.proofs.WithinLaws.{Says, no_byte, onto, ends_here, low_here, small_here, rest, value_here, refused_here}
+use Rattle.base_cursor.proofs.WithinLaws.{Says, no_byte, onto, ends_here, low_here, small_here, rest}
 
 pub long : (l : List ℕ) (at : ℕ) (r : VarintStep) → at ≤ length l → Says l at 4 0 at r → r ≡ varint_at l at
 unfolding varint_at

@@ -1,7 +1,7 @@
 -- A record's body: accepted exactly when it is a body that fits, written out, with nothing left.
 -- Assumes nothing.
 use mathlib.Core.Path.{◌≡◌, refl, sym, ap, ap₂, ◌∙◌, subst}
-use Prim.Native.Nat.{ℕ, ◌+◌, ◌*◌, ◌/◌, ◌%◌, ◌≤◌, ◌<◌}
+use Prim.Native.Nat.{ℕ, ◌+◌, ◌/◌, ◌%◌, ◌≤◌, ◌<◌}
 use native.Mathlib.Omega.{arith}
 use mathlib.Core.Logic.{◌↔◌}
 use mathlib.Core.Bool.{Bool, true, false}
@@ -10,8 +10,8 @@ use lib.Dec.{ltb}
 use borrow.Author.Tests.{ltb-true, eqb-true, eqb-false}
 use Rattle.format.specs.Base.{pick, Bytes, Out, ok, bind}
 use Rattle.format.specs.Limits.{most_samples}
-use Rattle.format.specs.Track.{leans, Track, track_kind, track_bytes, read_track, Fits}
-use Rattle.format.specs.Phase.{Phases, has_phases, PhasesObey, phases_bytes, read_phases}
+use Rattle.format.specs.Track.{leans, Track, track_kind, track_bytes, read_track}
+use Rattle.format.specs.Phase.{Phases, has_phases, phases_bytes, read_phases}
 use Rattle.format.specs.Body.{kind_of, type_leans, type_phased, Body, body_type, body_leans, body_bytes, BodyFits, track_heterozygous}
 use Rattle.format.specs.Body.{ended, read_after, read_body}
 use Rattle.format.specs.Layout.{bits_allowed}

@@ -4,7 +4,7 @@ use mathlib.Core.Path.{◌≡◌, refl, sym, ap, ap₂, ◌∙◌}
 use Prim.Native.Nat.{ℕ, zero, suc, ◌+◌, ◌-◌, ◌*◌, ◌%◌, ◌<◌}
 use mathlib.Core.Bool.{Bool, true, false, not, ◌&&◌, ◌||◌}
 use mathlib.Core.List.{List, [], ◌∷◌, ◌++◌, map}
-use lib.ListN.{length, get_or, length-append, length-map}
+use lib.ListN.{length, length-append, length-map}
 use lib.Dec.{eqb, lit<}
 use native.Mathlib.Omega.{arith}
 use borrow.Author.Tests.{lt-ltb, ne_eqb}
@@ -16,7 +16,7 @@ use Rattle.format.specs.Numbers.{numbers_bytes}
 use Rattle.format.specs.Packed.{one, two, packed}
 use Rattle.format.specs.Difflist.{Entry, number_width, heads, sizes_after, size_bytes, values, steps, list_parts, list_bytes}
 use Rattle.format.specs.PairCode.{pair}
-use Rattle.format.specs.Track.{against_category, kind, Track, plain, one_bit, leaning, sparse, track_kind, track_leans, Fits, bit_number, track_bytes}
+use Rattle.format.specs.Track.{against_category, kind, Track, plain, one_bit, leaning, sparse, track_kind, Fits, bit_number, track_bytes}
 use Rattle.format.specs.Track.{revalue, flip_track, leans}
 use Rattle.format.specs.Phase.{has_phases, phases_bytes, flip_phases}
 use Rattle.format.specs.Body.{kind_of, type_leans, Body, body_type, body_leans, body_bytes, BodyFits, flip_body, flip_kind, flip_type}

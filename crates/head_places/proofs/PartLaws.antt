@@ -10,7 +10,7 @@ use Rattle.format.specs.declared.Fields.{Fields}
 use Rattle.format.specs.Layout.{Layout, body_lengths, record_start}
 use Rattle.head_index.proofs.StartLaws.{body_length_at, record_end, stored_body, stored_inside}
 use Rattle.head_places.specs.declared.Place.{Place}
-use Rattle.head_places.specs.Located.{HasLayout, Located}
+use Rattle.head_places.specs.Located.{Located}
 
 module _ {index held : List ℕ} {f : Fields} {v : FileVariant} {p : Place} (g : Located index held f v p) where
   abbrev l : Layout
