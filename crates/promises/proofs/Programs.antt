@@ -10,12 +10,17 @@ use Rattle.format.specs.Limits.{variants_to_a_block}
 use Rattle.format.specs.Reply.{header_left, header_call, check_left, check_call, read_left, read_call, phases_call, lookup_left, lookup_call}
 use Rattle.format.specs.Reply.{view_left, part_of_file, view_call, write_left, write_call, write_phased_call, flip_left, flip_call}
 use Rattle.head_check.proofs as head
+use Rattle.head_check.specs.contracts as head_lent
 use Rattle.call_read.proofs as reading
+use Rattle.call_read.specs.contracts as reading_lent
 use Rattle.call_write.proofs as writing
+use Rattle.call_write.specs.contracts as writing_lent
 use Rattle.call_flip.proofs as flipping
+use Rattle.call_flip.specs.contracts as flipping_lent
 use Rattle.call_rows.specs.Calls.{rows_answer, start_rows_call, row_left, next_row_call}
 use Rattle.call_rows.specs.Phased.{phased_row_left, next_phased_row_call}
 use Rattle.call_rows.proofs as stepping
+use Rattle.call_rows.specs.contracts as stepping_lent
 
 -- "Every input gets a reply": no contract has a `requires`, so each call returns, whatever it is lent
 pub record Meets (M : Type 1) : Type 2 where
@@ -50,46 +55,46 @@ meets = record {
 
 -- and what it replies and leaves is what its definition gives
 pub record Says : Type 0 where
-  pub header_check : (κs : Lfts 1) (lent : ArgsD head.check.signature κs) (r : ResD head.check.signature κs) (left : AtExit head.check.ended κs)
+  pub header_check : (κs : Lfts 1) (lent : ArgsD head_lent.check.signature κs) (r : ResD head_lent.check.signature κs) (left : AtExit head_lent.check.ended κs)
       → head.check.Reads.Post κs lent r left → header_left r ≡ header_call variants_to_a_block lent.0.now
-  pub check : (κs : Lfts 2) (lent : ArgsD reading.check.signature κs) (r : ResD reading.check.signature κs) (left : AtExit reading.check.ended κs)
+  pub check : (κs : Lfts 2) (lent : ArgsD reading_lent.check.signature κs) (r : ResD reading_lent.check.signature κs) (left : AtExit reading_lent.check.ended κs)
       → reading.check.Reads.Post κs lent r left
       → check_left r left.1.0.now ≡ check_call variants_to_a_block lent.0.now lent.1.0.now
-  pub read : (κs : Lfts 3) (lent : ArgsD reading.read.signature κs) (r : ResD reading.read.signature κs) (left : AtExit reading.read.ended κs)
+  pub read : (κs : Lfts 3) (lent : ArgsD reading_lent.read.signature κs) (r : ResD reading_lent.read.signature κs) (left : AtExit reading_lent.read.ended κs)
       → reading.read.Reads.Post κs lent r left
       → read_left r left.1.1.0.now left.1.1.1.0.now
       ≡ read_call variants_to_a_block lent.0.now lent.1.0 lent.1.1.0.now lent.1.1.1.0.now
-  pub read_phases : (κs : Lfts 3) (lent : ArgsD reading.read_phases.signature κs) (r : ResD reading.read_phases.signature κs)
-      (left : AtExit reading.read_phases.ended κs) → reading.read_phases.Reads.Post κs lent r left
+  pub read_phases : (κs : Lfts 3) (lent : ArgsD reading_lent.read_phases.signature κs) (r : ResD reading_lent.read_phases.signature κs)
+      (left : AtExit reading_lent.read_phases.ended κs) → reading.read_phases.Reads.Post κs lent r left
       → read_left r left.1.1.0.now left.1.1.1.0.now
       ≡ phases_call variants_to_a_block lent.0.now lent.1.0 lent.1.1.0.now lent.1.1.1.0.now
-  pub lookup : (κs : Lfts 2) (lent : ArgsD reading.lookup.signature κs) (r : ResD reading.lookup.signature κs) (left : AtExit reading.lookup.ended κs)
+  pub lookup : (κs : Lfts 2) (lent : ArgsD reading_lent.lookup.signature κs) (r : ResD reading_lent.lookup.signature κs) (left : AtExit reading_lent.lookup.ended κs)
       → reading.lookup.Reads.Post κs lent r left
       → lookup_left r left.1.1.1.0.now ≡ lookup_call variants_to_a_block lent.0.now lent.1.0 lent.1.1.0 lent.1.1.1.0.now
-  pub view : (κs : Lfts 4) (lent : ArgsD reading.view.signature κs) (r : ResD reading.view.signature κs) (left : AtExit reading.view.ended κs)
+  pub view : (κs : Lfts 4) (lent : ArgsD reading_lent.view.signature κs) (r : ResD reading_lent.view.signature κs) (left : AtExit reading_lent.view.ended κs)
       → reading.view.Reads.Post κs lent r left
       → view_left left.1.1.0.now left.1.1.1.0.now left.1.1.1.1.0.now r.now r.ref_ptr
       ≡ part_of_file lent.0.ref_ptr (view_call variants_to_a_block lent.0.now lent.1.0)
-  pub write_record : (κs : Lfts 3) (lent : ArgsD writing.write_record.signature κs) (r : ResD writing.write_record.signature κs)
-      (left : AtExit writing.write_record.ended κs) → writing.write_record.Reads.Post κs lent r left
+  pub write_record : (κs : Lfts 3) (lent : ArgsD writing_lent.write_record.signature κs) (r : ResD writing_lent.write_record.signature κs)
+      (left : AtExit writing_lent.write_record.ended κs) → writing.write_record.Reads.Post κs lent r left
       → write_left r left.1.1.1.1.0.now
       ≡ write_call lent.0.now lent.1.0 lent.1.1.0 lent.1.1.1.0.now lent.1.1.1.1.0.now
-  pub write_phased_record : (κs : Lfts 4) (lent : ArgsD writing.phased.write_phased_record.signature κs)
-      (r : ResD writing.phased.write_phased_record.signature κs) (left : AtExit writing.phased.write_phased_record.ended κs)
+  pub write_phased_record : (κs : Lfts 4) (lent : ArgsD writing_lent.phased.write_phased_record.signature κs)
+      (r : ResD writing_lent.phased.write_phased_record.signature κs) (left : AtExit writing_lent.phased.write_phased_record.ended κs)
       → writing.phased.write_phased_record.Reads.Post κs lent r left
       → write_left r left.1.1.1.1.1.0.now
       ≡ write_phased_call lent.0.now lent.1.0.now lent.1.1.0 lent.1.1.1.0 lent.1.1.1.1.0.now lent.1.1.1.1.1.0.now
-  pub flip : (κs : Lfts 3) (lent : ArgsD flipping.flip.signature κs) (r : ResD flipping.flip.signature κs) (left : AtExit flipping.flip.ended κs)
+  pub flip : (κs : Lfts 3) (lent : ArgsD flipping_lent.flip.signature κs) (r : ResD flipping_lent.flip.signature κs) (left : AtExit flipping_lent.flip.ended κs)
       → flipping.flip.Reads.Post κs lent r left
       → flip_left r left.0.now left.1.1.0.now ≡ flip_call variants_to_a_block lent.0.now lent.1.0.now lent.1.1.0.now
-  pub start_rows : (κs : Lfts 2) (lent : ArgsD stepping.start_rows.signature κs) (r : ResD stepping.start_rows.signature κs)
-      (left : AtExit stepping.start_rows.ended κs) → stepping.start_rows.Reads.Post κs lent r left
+  pub start_rows : (κs : Lfts 2) (lent : ArgsD stepping_lent.start_rows.signature κs) (r : ResD stepping_lent.start_rows.signature κs)
+      (left : AtExit stepping_lent.start_rows.ended κs) → stepping.start_rows.Reads.Post κs lent r left
       → rows_answer r ≡ start_rows_call lent.0.now lent.1.0.now
-  pub next_row : (κs : Lfts 3) (lent : ArgsD stepping.next_row.signature κs) (r : ResD stepping.next_row.signature κs)
-      (left : AtExit stepping.next_row.ended κs) → stepping.next_row.Reads.Post κs lent r left
+  pub next_row : (κs : Lfts 3) (lent : ArgsD stepping_lent.next_row.signature κs) (r : ResD stepping_lent.next_row.signature κs)
+      (left : AtExit stepping_lent.next_row.ended κs) → stepping.next_row.Reads.Post κs lent r left
       → row_left r left.1.1.0.now left.1.1.1.0.now ≡ next_row_call lent.0 lent.1.0.now lent.1.1.0.now lent.1.1.1.0.now
-  pub next_phased_row : (κs : Lfts 4) (lent : ArgsD stepping.phased.next_phased_row.signature κs)
-      (r : ResD stepping.phased.next_phased_row.signature κs) (left : AtExit stepping.phased.next_phased_row.ended κs)
+  pub next_phased_row : (κs : Lfts 4) (lent : ArgsD stepping_lent.phased.next_phased_row.signature κs)
+      (r : ResD stepping_lent.phased.next_phased_row.signature κs) (left : AtExit stepping_lent.phased.next_phased_row.ended κs)
       → stepping.phased.next_phased_row.Reads.Post κs lent r left
       → phased_row_left r left.1.1.0.now left.1.1.1.0.now left.1.1.1.1.0.now
       ≡ next_phased_row_call lent.0 lent.1.0.now lent.1.1.0.now lent.1.1.1.0.now lent.1.1.1.1.0.now
