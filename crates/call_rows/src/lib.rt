@@ -72,8 +72,8 @@ pub fn start_rows(file: &[u8], work: &[u8]) -> RowsReply
 }
 
 // Where the next record stands, or why none is read.
-#[derive(Drop)]
-enum NextRecord {
+#[derive(Clone, Copy)]
+pub enum NextRecord {
     At(Place),
     Refused(Refusal),
 }
