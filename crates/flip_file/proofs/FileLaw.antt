@@ -1,7 +1,7 @@
 -- THE LAW of the flip in place: on the bytes of a file that obeys, with the phases of members flipped, the two passes leave the bytes of the flipped file.
 -- Assumes nothing.
 use mathlib.Core.Path.{◌≡◌, refl, sym, ap, ap₂, ◌∙◌}
-use Prim.Native.Nat.{ℕ, zero, ◌+◌, ◌≤◌, ◌<◌}
+use Prim.Native.Nat.{ℕ, zero, ◌≤◌, ◌<◌}
 use native.Mathlib.Nat.{add-zero, zero-add}
 use mathlib.Core.Bool.{Bool, true, false}
 use mathlib.Core.List.{List, [], ◌++◌, map}
@@ -12,7 +12,7 @@ use Rattle.format.specs.Body.{Body, body_type, body_bytes}
 use Rattle.format.specs.Variant.{file_variant}
 use Rattle.format.specs.Limits.{most_samples}
 use Rattle.format.specs.Layout.{Fixed, unblocked, Layout, fixed_of, body_lengths, first_record}
-use Rattle.format.specs.Layout.{Arrays, arrays_bytes, header_bytes, arrays_of, joined, in_parts, layout_bytes}
+use Rattle.format.specs.Layout.{Arrays, arrays_bytes, header_bytes, arrays_of, in_parts, layout_bytes}
 use Rattle.format.specs.File.{File, layout_of_file, file_bytes, Obeys, read_file, flip_bodies, flip_file, flip_bytes}
 use Rattle.format.proofs.OffsetsLaws.{offsets_fit, from_1_to_most}
 use Rattle.format.proofs.ArraysLaws.{header_length}

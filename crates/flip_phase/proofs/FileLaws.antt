@@ -1,25 +1,24 @@
 -- A file that the whole-file check accepts: the pass begins with it as it is, and leaves it with the phases of members flipped.
 -- Assumes nothing.
 use mathlib.Core.Path.{◌≡◌, refl, sym, ap, ap₂, ◌∙◌, subst}
-use Prim.Native.Nat.{ℕ, zero, suc, ◌+◌, ◌/◌, ◌%◌, ◌≤◌, ◌<◌}
+use Prim.Native.Nat.{ℕ, suc, ◌+◌, ◌/◌, ◌%◌, ◌≤◌, ◌<◌}
 use native.Mathlib.Nat.{mod-lt}
 use native.Mathlib.Omega.{arith}
 use mathlib.Core.Bool.{Bool, true, false, not, ◌&&◌}
 use mathlib.Core.List.{List, [], ◌∷◌, ◌++◌, map}
-use lib.ListN.{length, get_or, take, drop, replicate, length-map}
+use lib.ListN.{length, get_or, drop, replicate, length-map}
 use lib.Dec.{lit<}
 use borrow.Author.Tests.{lt-ltb}
 use Rattle.format.specs.declared.Fields.{Fields}
 use Rattle.format.specs.declared.FileVariant.{FileVariant}
-use Rattle.format.specs.Base.{pick, Bytes, ok}
+use Rattle.format.specs.Base.{pick, Bytes}
 use Rattle.format.specs.Limits.{most_samples, most_variants, variants_to_a_block}
 use Rattle.format.specs.Phase.{Phases, no_phases, phased, has_phases, flip_phases}
-use Rattle.format.specs.Body.{type_phased, Body, body_type, body_leans, body_bytes, BodyFits}
+use Rattle.format.specs.Body.{type_phased, Body, body_type, body_leans, body_bytes}
 use Rattle.format.specs.Variant.{file_variant, next_variant, in_block}
 use Rattle.format.specs.Packed.{four, eight, limit}
 use Rattle.format.specs.Layout.{unblocked, form_of, fields_of, first_record, header_bytes, Layout, fixed_of, arrays_of, body_lengths, in_parts, layout_bytes}
 use Rattle.format.specs.Layout.{TypesAllowed}
-use Rattle.format.specs.Reply.{emptied}
 use Rattle.format.specs.File.{File, layout_of_file, file_bytes, BodiesFit, Obeys}
 use Rattle.format.proofs.Rules.{never_both, split}
 use Rattle.format.proofs.OffsetsLaws.{offsets_fit, from_1_to_most}
@@ -31,10 +30,9 @@ use Rattle.format.proofs.FlipTypeLaws.{body_allowed}
 use Rattle.head_index.specs.VariantsAt.{type_at}
 use Rattle.head_blocks.specs.Parts.{fixed}
 use Rattle.head_blocks.proofs.Sizes.{known_bytes}
-use Rattle.head_records.specs.Extent.{record_type, record_size}
+use Rattle.head_records.specs.Extent.{record_type}
 use Rattle.head_records.proofs.FoundLaws.{types_found, sizes_found}
 use Rattle.flip_phase.specs.Accepted.{Accepted}
-use Rattle.flip_phase.specs.OneRecord.{turn_phases}
 use Rattle.flip_phase.specs.AllRecords.{turn_all, records_bytes, phases_turned, turned_if_read, phases_flipped}
 use Rattle.flip_phase.specs.AllRecords.{NonePhased, PhasedIfAny, AllPassed}
 use Rattle.flip_phase.proofs.PassLaws.{first_leans, Turning, turning_last}

@@ -1,26 +1,24 @@
 -- The pass over all records: what is flipped already, what is to come, and what the row holds.
 -- Assumes nothing.
-use mathlib.Core.Path.{◌≡◌, refl, sym, ap, ap₂, ◌∙◌, subst}
-use Prim.Native.Nat.{ℕ, zero, suc, ◌+◌, ◌≤◌, ◌<◌}
+use mathlib.Core.Path.{◌≡◌, refl, sym, ap, ◌∙◌, subst}
+use Prim.Native.Nat.{ℕ, suc, ◌+◌, ◌≤◌, ◌<◌}
 use native.Mathlib.Nat.{add-zero}
 use native.Mathlib.Numerals.{add-one}
 use native.Mathlib.Omega.{arith}
 use mathlib.Core.Bool.{Bool, true, false}
-use mathlib.Core.List.{List, [], ◌∷◌, ◌++◌, map, append_assoc, append-nil}
-use lib.ListN.{length, get_or, take, drop, length-append, length-map}
+use mathlib.Core.List.{List, [], ◌∷◌, ◌++◌, map, append_assoc}
+use lib.ListN.{length, get_or, take, drop, length-append}
 use lib.Seq.{get_or-drop, drop-drop}
-use lib.Dec.{lit<}
 use mir.Syntax.{w64}
 use mir.Val.{Fits}
 use Rattle.format.specs.declared.Fields.{Fields}
 use Rattle.format.specs.declared.FileVariant.{FileVariant}
-use Rattle.format.specs.Base.{pick, Bytes}
 use Rattle.format.specs.Limits.{most_samples, most_variants, variants_to_a_block}
 use Rattle.format.specs.Phase.{heterozygous_count, phases_bytes}
 use Rattle.format.specs.Track.{track_bytes}
 use Rattle.format.specs.Body.{type_leans, Body, body_type, body_leans, body_bytes, BodyFits, body_categories}
-use Rattle.format.specs.Variant.{file_variant, next_variant}
-use Rattle.format.specs.Layout.{first_record, joined}
+use Rattle.format.specs.Variant.{file_variant}
+use Rattle.format.specs.Layout.{joined}
 use Rattle.format.specs.File.{next_anchor, BodiesFit}
 use Rattle.format.proofs.Rules.{never_both}
 use Rattle.format.proofs.BodyLaws.{body_leans_typed}

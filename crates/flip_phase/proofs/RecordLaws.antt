@@ -1,24 +1,21 @@
 -- A record that stands at a place: where its phase track stands, and that turning it flips the record's phases.
 -- Assumes nothing.
-use mathlib.Core.Path.{◌≡◌, refl, sym, ap, ap₂, ◌∙◌, subst}
-use Prim.Native.Nat.{ℕ, ◌+◌, ◌-◌, ◌≤◌, ◌<◌}
+use mathlib.Core.Path.{◌≡◌, refl, sym, ap, ◌∙◌, subst}
+use Prim.Native.Nat.{ℕ, ◌+◌, ◌-◌, ◌≤◌}
 use native.Mathlib.Omega.{arith}
 use mathlib.Core.Bool.{Bool, true, false}
-use mathlib.Core.List.{List, [], ◌∷◌, ◌++◌, append_assoc}
-use lib.ListN.{length, take, drop, length-append, length-take, length-drop}
+use mathlib.Core.List.{List, ◌++◌, append_assoc}
+use lib.ListN.{length, take, drop, length-append, length-take}
 use lib.Seq.{take_at, drop_at}
-use Rattle.format.specs.Base.{pick, Out, ok}
 use Rattle.format.specs.Limits.{most_samples}
-use Rattle.format.specs.Track.{Track, track_kind, track_bytes, read_track}
-use Rattle.format.specs.Phase.{heterozygous_count, PhaseTrack, PhasesFit, PhasesObey, Phases, no_phases, phased, has_phases, phases_bytes}
+use Rattle.format.specs.Track.{track_bytes}
+use Rattle.format.specs.Phase.{PhaseTrack, PhasesFit, PhasesObey, Phases, no_phases, phased, has_phases, phases_bytes}
 use Rattle.format.specs.Phase.{phase_track_bytes, flip_phase_track}
-use Rattle.format.specs.Body.{type_leans, type_phased, Body, body_leans, body_bytes, BodyFits, body_categories, track_heterozygous}
-use Rattle.format.proofs.PhaseLaws.{heterozygous_count_most}
+use Rattle.format.specs.Body.{type_leans, type_phased, body_leans, body_bytes, track_heterozygous}
 use Rattle.format.proofs.BodyLaws.{body_leans_typed, body_phased}
-use Rattle.format.proofs.TrackLaws.{track_read_back}
 use Rattle.head_places.specs.declared.Place.{Place}
 use Rattle.flip_phase.specs.Turned.{TrackThere, track_turned}
-use Rattle.flip_phase.specs.OneRecord.{RecordThere, Turned}
+use Rattle.flip_phase.specs.OneRecord.{RecordThere}
 use Rattle.flip_phase.proofs.TrackLaws.{track_flips}
 
 module _ {n : ℕ} {p : Place} {row file : List ℕ} (w : RecordThere n p row file) where

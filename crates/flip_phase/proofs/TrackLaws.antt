@@ -5,12 +5,12 @@ use Prim.Native.Nat.{ℕ, zero, suc, ◌+◌, ◌-◌, ◌/◌, ◌%◌, ◌≤�
 use native.Mathlib.Omega.{arith}
 use mathlib.Core.Bool.{Bool, true, false, not, ◌||◌}
 use mathlib.Core.List.{List, [], ◌∷◌, ◌++◌, map, append_assoc}
-use lib.ListN.{length, take, drop, length-append, length-map, length-take, length-drop}
+use lib.ListN.{length, take, drop, length-append, length-map}
 use lib.Seq.{take_at, drop_at}
 use lib.Dec.{eqb, lit<}
 use mir.Syntax.{w64}
 use mir.Val.{Fits}
-use Rattle.format.specs.Base.{pick, Below, ok}
+use Rattle.format.specs.Base.{pick, Below}
 use Rattle.format.specs.Limits.{most_samples}
 use Rattle.format.specs.Packed.{one, packed}
 use Rattle.format.specs.Track.{bit_number}

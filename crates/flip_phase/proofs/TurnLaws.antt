@@ -1,17 +1,16 @@
 -- One record's turn: what each way through it leaves of the file and of the row.
 -- Assumes nothing.
 use mathlib.Core.Path.{◌≡◌, refl, sym, ap, ap₂, ◌∙◌}
-use Prim.Native.Nat.{ℕ, ◌+◌, ◌≤◌}
+use Prim.Native.Nat.{ℕ, ◌≤◌}
 use native.Mathlib.Omega.{arith}
 use mathlib.Core.Bool.{Bool, true, false, ◌&&◌}
 use mathlib.Core.List.{List, ◌++◌, map}
-use lib.ListN.{length, take, drop, length-take, length-map, length-replicate}
-use Rattle.format.specs.Base.{pick}
+use lib.ListN.{length, take, length-take, length-map, length-replicate}
 use Rattle.format.specs.Limits.{most_samples}
 use Rattle.format.specs.Track.{Track, plain, one_bit, leaning, sparse, Fits, track_bytes, apply, track_categories}
 use Rattle.format.specs.PairCode.{category_of}
 use Rattle.format.specs.Phase.{heterozygous_count, Phases, no_phases, phased, has_phases, phases_bytes, flip_phases}
-use Rattle.format.specs.Body.{type_leans, type_phased, Body, body_leans, body_bytes, body_categories, track_heterozygous}
+use Rattle.format.specs.Body.{type_leans, type_phased, body_bytes, body_categories, track_heterozygous}
 use Rattle.format.specs.File.{next_anchor}
 use Rattle.format.proofs.Rules.{both, never_both}
 use Rattle.format.proofs.CategoryLaws.{exchange_all_length}
