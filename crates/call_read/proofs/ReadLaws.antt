@@ -13,7 +13,7 @@ use Rattle.format.specs.declared.Refusal.{Refusal}
 use Rattle.format.specs.declared.HeaderReply.{HeaderReply}
 use Rattle.format.specs.declared.HeaderReply.TheVariants as header
 use Rattle.format.specs.declared.Reply.{Reply}
-use Rattle.format.specs.declared.Reply.TheVariants.{Accepted, Refused}
+use Rattle.format.specs.declared.Reply.TheVariants.{Refused}
 use Rattle.format.specs.Base.{Out, ok, refused, bind}
 use Rattle.format.specs.Limits.{variants_to_a_block}
 use Rattle.format.specs.Body.{Body, body_categories}

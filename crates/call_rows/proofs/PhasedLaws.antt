@@ -10,7 +10,7 @@ use native.Mathlib.Omega.{arith}
 use Rattle.format.specs.declared.Refusal.{Refusal}
 use Rattle.format.specs.declared.Reply.{Reply}
 use Rattle.format.specs.declared.Reply.TheVariants.{Accepted, Refused}
-use Rattle.format.specs.Base.{pick, Out, ok, refused, refusal, naming, map_out}
+use Rattle.format.specs.Base.{pick, Out, ok, refused, naming, map_out}
 use Rattle.format.specs.Body.{type_leans, Body, read_body, body_categories, Reading, body_reading}
 use Rattle.format.specs.Reply.{named_reply}
 use Rattle.format.proofs.Rules.{Holds}

@@ -11,7 +11,7 @@ use Rattle.format.specs.declared.BlockVariant.{BlockVariant}
 use Rattle.format.specs.declared.Refusal.{Refusal}
 use Rattle.format.specs.declared.Reply.{Reply}
 use Rattle.format.specs.declared.Reply.TheVariants.{Accepted}
-use Rattle.format.specs.Base.{Out, ok, refuse, refused, refusal, refuse_of}
+use Rattle.format.specs.Base.{Out, ok, refuse, refused, refuse_of}
 use Rattle.format.specs.Classes.{record_numbers, among}
 use Rattle.format.specs.Limits.{most_samples, most_variants, variants_to_a_block}
 use Rattle.format.specs.Body.{type_leans}

@@ -14,7 +14,7 @@ use Rattle.format.specs.Limits.{variants_to_a_block}
 use Rattle.format.specs.Body.{Body, read_body, body_categories, Reading, body_reading}
 use Rattle.format.specs.Variant.{next_variant}
 use Rattle.format.specs.Layout.{Layout, record_start}
-use Rattle.format.specs.Reply.{emptied, named_reply}
+use Rattle.format.specs.Reply.{named_reply}
 use Rattle.format.specs.File.{type_of, over_as, variant_as}
 use Rattle.format.proofs.RowLaws.{row_anchor_unused, reading_anchor_unused}
 use Rattle.head_blocks.proofs.Sizes.{known_bytes}

@@ -1,18 +1,18 @@
 -- A list only checked is answered as one that is put into a row, and so as the format reads it.
 -- Assumes nothing.
 use mathlib.Core.Path.{◌≡◌, refl, sym, ap, ◌∙◌}
-use Prim.Native.Nat.{ℕ, zero, suc, ◌+◌, ◌/◌, ◌≤◌, ◌<◌}
+use Prim.Native.Nat.{ℕ, zero, suc, ◌≤◌, ◌<◌}
 use native.Mathlib.Omega.{arith}
 use mathlib.Core.Bool.{Bool, true, false}
 use mathlib.Core.List.{List, []}
 use lib.ListN.{get_or, length, set, take, replicate, get_or-replicate}
 use lib.Seq.{get_or-set_other}
 use lib.Dec.{eqb}
-use Rattle.format.specs.Base.{pick, Out, ok, refused, refusal}
+use Rattle.format.specs.Base.{pick, Out, ok, refused}
 use Rattle.format.specs.Difflist.{Entry}
 use Rattle.base_cursor.specs.Steps.{varint_at}
-use Rattle.read_list.specs.Entries.{value_at, allows, Against, next_sample, bump, turn, put_value, put_entry, go_on, put_entries, ListLeft, list_left}
-use Rattle.read_list.specs.Entries.{check_value, check_entry, on_to, check_entries}
+use Rattle.read_list.specs.Entries.{value_at, allows, Against, next_sample, bump, put_value, go_on, put_entries, ListLeft, list_left}
+use Rattle.read_list.specs.Entries.{check_value, on_to, check_entries}
 use Rattle.read_list.specs.Parts.{count_of, lay_out, laid_out, counted_out, put_parts, check_parts}
 use Rattle.read_list.specs.Listed.{list_at}
 use Rattle.read_list.specs.Checked.{stepped, checked}

@@ -27,7 +27,7 @@ use Rattle.base_cursor.proofs.VarintLaws.{Read, was_read, was_refused}
 use Rattle.base_cursor.specs.declared.Cursor.{Cursor}
 use Rattle.base_cursor.specs.declared.VarintStep.{VarintStep}
 use Rattle.base_cursor.specs.declared.VarintStep.TheVariants as varint
-use Rattle.read_list.specs.Entries.{turn, value_at, allows, reach, take_head, take_step, next_sample, put_value, go_on, put_entries}
+use Rattle.read_list.specs.Entries.{turn, value_at, allows, reach, take_head, take_step, put_value, go_on, put_entries}
 use Rattle.read_list.specs.Entries.{headed, moved, group_bytes, bump, ListLeft, list_left}
 use Rattle.read_list.specs.Listed.{may_hold}
 use Rattle.read_list.specs.declared.ListRule.{ListRule}

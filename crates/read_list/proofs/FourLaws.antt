@@ -8,10 +8,8 @@ use mathlib.Core.Bool.{Bool, true}
 use mathlib.Core.List.{List}
 use lib.ListN.{get_or, length, set, length-set}
 use lib.Seq.{get_or-drop}
-use lib.Dec.{ltb}
 use mir.Syntax.{w64}
 use mir.Val.{Fits}
-use borrow.Author.Tests.{ltb-true}
 use borrow.Author.Count.{below_more}
 use Rattle.format.proofs.Rules.{split, unsaid}
 use Rattle.head_index.specs.NumbersAt.{digit_at}

@@ -3,7 +3,7 @@
 use mathlib.Core.Path.{◌≡◌, refl, sym, ◌∙◌, subst}
 use Prim.Native.Nat.{ℕ, suc, ◌+◌, ◌-◌, ◌/◌, ◌≤◌, ◌<◌}
 use native.Mathlib.Omega.{arith}
-use mathlib.Core.Bool.{Bool, true, false, not}
+use mathlib.Core.Bool.{Bool, true, false}
 use mathlib.Core.List.{List}
 use lib.ListN.{get_or, length, set, length-set}
 use lib.Dec.{leb, ltb}
@@ -12,7 +12,6 @@ use mir.Val.{Fits}
 use borrow.Author.Tests.{leb-true, ltb-true}
 use Rattle.format.specs.declared.Refusal.{Refusal}
 use Rattle.format.specs.Base.{pick}
-use Rattle.format.specs.Limits.{most_samples}
 use Rattle.base_cursor.specs.Steps.{varint_at, short_at}
 use Rattle.base_cursor.specs.declared.Cursor.{Cursor}
 use Rattle.base_cursor.specs.declared.ShortStep.{ShortStep}

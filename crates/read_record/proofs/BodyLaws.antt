@@ -1,37 +1,23 @@
 -- The kinds by their numbers, and the whole record: "Lastly 13".
 -- Assumes nothing.
-use mathlib.Core.Path.{◌≡◌, refl, sym, ap, ◌∙◌}
+use mathlib.Core.Path.{◌≡◌, refl}
 use Prim.Native.Nat.{ℕ, zero, suc, ◌-◌, ◌≤◌, ◌<◌}
 use native.Mathlib.Omega.{arith}
-use mathlib.Core.List.{List, [], ◌∷◌, ◌++◌, map}
-use lib.ListN.{get_or, length, take, drop, replicate, length-map, length-replicate, length-append, length-drop}
-use lib.Seq.{length-take-le}
-use lib.Dec.{eqb, ltb}
-use mir.Syntax.{w8}
-use mir.Val.{Fits as Bounded}
+use mathlib.Core.List.{List}
+use lib.Dec.{eqb}
 use borrow.Author.Tests.{lt-ltb, le-ltb}
 use Rattle.format.specs.declared.Refusal.{Refusal}
-use Rattle.format.specs.Base.{pick, Out, ok, refused, refusal, bind, map_out}
-use Rattle.format.specs.PairCode.{category_of}
+use Rattle.format.specs.Base.{Out, ok, refused, refusal}
 use Rattle.format.specs.Track.{Kind, array, paired, against_anchor, against_category, kind}
-use Rattle.format.specs.Track.{Track, plain, one_bit, leaning, sparse, Fits, track_bytes, apply, read_kind, track_categories}
-use Rattle.format.specs.Body.{kind_of, Body, ended, read_body}
-use Rattle.format.specs.Reply.{emptied}
-use Rattle.format.proofs.Rules.{Holds, below_drop}
-use Rattle.format.proofs.CategoryLaws.{exchange_all_length}
-use Rattle.format.proofs.RowLaws.{apply_length}
-use Rattle.format.proofs.TrackLaws.{IsTrack, track_as_written}
+use Rattle.format.specs.Body.{Body}
 use Rattle.base_cursor.specs.declared.Cursor.{Cursor}
-use Rattle.base_cursor.proofs.ByteLaws.{bytes_of}
 use Rattle.read_list.specs.Entries.{list_left}
-use Rattle.read_list.specs.Checked.{stepped}
 use Rattle.read_list.specs.declared.ListStep.{ListStep}
 use Rattle.read_list.specs.declared.ListStep.TheVariants.{Listed, Refused}
 use Rattle.format.specs.declared.Reply.{Reply}
 use Rattle.format.specs.declared.Reply.TheVariants.{Accepted, Refused as NotAccepted}
-use Rattle.read_record.specs.Rows.{wiped, stored, kind_categories, tracked}
-use Rattle.read_record.specs.Recorded.{replied, whole_record, RecordLeft, record_left, record_replied, recorded}
-use Rattle.read_record.proofs.RowLaws.{rest_of}
+use Rattle.read_record.specs.Rows.{wiped, tracked}
+use Rattle.read_record.specs.Recorded.{replied, whole_record, RecordLeft, record_left, record_replied}
 
 -- ---- the parts of what is left
 

@@ -1,7 +1,7 @@
 -- What follows the main track of a record: its phase track, if it has one, and nothing after it.
 -- Assumes nothing.
 use mathlib.Core.Path.{◌≡◌, refl, sym, ap, ◌∙◌}
-use Prim.Native.Nat.{ℕ, suc, ◌+◌, ◌-◌, ◌≤◌, ◌<◌}
+use Prim.Native.Nat.{ℕ, suc, ◌+◌, ◌-◌, ◌≤◌}
 use native.Mathlib.Omega.{arith}
 use mathlib.Core.Bool.{Bool, true, false}
 use mathlib.Core.List.{List, [], ◌∷◌, ◌++◌}
@@ -12,11 +12,11 @@ use mir.Val.{Fits as Bounded}
 use borrow.Author.Tests.{lt-ltb, le-ltb}
 use Rattle.format.specs.declared.Refusal.{Refusal}
 use Rattle.format.specs.declared.Reply.{Reply}
-use Rattle.format.specs.Base.{pick, Out, ok, refused, bind, map_out}
+use Rattle.format.specs.Base.{Out, ok, refused, bind, map_out}
 use Rattle.format.specs.Limits.{most_samples}
 use Rattle.format.specs.Phase.{heterozygous_count, PhaseTrack, read_phase_track, Phases, no_phases, phased, phases_bytes, read_phases}
 use Rattle.format.specs.Track.{Track, track_bytes}
-use Rattle.format.specs.Body.{kind_of, type_phased, Body, track_heterozygous, ended, read_after}
+use Rattle.format.specs.Body.{type_phased, track_heterozygous, ended, read_after}
 use Rattle.format.proofs.Rules.{Holds, weaken, below_drop}
 use Rattle.format.proofs.TrackLaws.{IsTrack}
 use Rattle.format.proofs.PhaseLaws.{IsPhases, phases_as_written, heterozygous_count_most}

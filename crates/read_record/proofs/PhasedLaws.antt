@@ -10,12 +10,11 @@ use lib.Seq.{take_at, length-take-le}
 use mir.Syntax.{w8}
 use mir.Val.{Fits as Bounded}
 use Rattle.format.specs.declared.Refusal.{Refusal}
-use Rattle.format.specs.declared.Reply.{Reply}
 use Rattle.format.specs.declared.Reply.TheVariants.{Accepted, Refused as NotAccepted}
 use Rattle.format.specs.Base.{pick, Out, ok, refused, bind, map_out}
 use Rattle.format.specs.Track.{kind, Track, track_bytes, read_kind, track_categories}
 use Rattle.format.specs.Phase.{heterozygous_count, PhaseTrack, read_phase_track, Phases, no_phases, phased, read_phases, phases_over}
-use Rattle.format.specs.Body.{kind_of, type_phased, Body, track_heterozygous, ended, read_after, read_body}
+use Rattle.format.specs.Body.{kind_of, type_phased, Body, track_heterozygous, ended, read_body}
 use Rattle.format.proofs.Rules.{Holds}
 use Rattle.format.proofs.TrackLaws.{IsTrack}
 use Rattle.base_cursor.specs.declared.Cursor.{Cursor}

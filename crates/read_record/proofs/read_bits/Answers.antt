@@ -9,7 +9,7 @@ pub put_list-requires-clause-at_in_bounds : goal.put_list-requires-clause-at_in_
 put_list-requires-clause-at_in_bounds c = search (list_laws, rules)
 
 pub put_list-requires-clause-lists : goal.put_list-requires-clause-lists
-put_list-requires-clause-lists c = 
+put_list-requires-clause-lists c =
     bits_known _ _ _ _ _ _ _ _ c.unpack_pair-got.ensures _ c.in-Next.is c.type_inv.s c.requires.at_in_bounds.0 _ c.requires.lists
 
 pub returns-in-Refused : goal.returns-in-Refused

@@ -9,7 +9,7 @@ pub read_bits-requires-clause-at_in_bounds : goal.read_bits-requires-clause-at_i
 read_bits-requires-clause-at_in_bounds c = search (pair_laws, rules)
 
 pub read_bits-requires-clause-lists : goal.read_bits-requires-clause-lists
-read_bits-requires-clause-lists c = 
+read_bits-requires-clause-lists c =
     pair_known _ _ _ _ _ c.byte-got.ensures _ _ c.in-Byte.is _ c.pair_of-found.ensures _ c.in-Known.is _ c.requires.lists
 
 pub returns-in-Refused : goal.returns-in-Refused

@@ -18,13 +18,13 @@ pub overflow_add-from : goal.overflow_add-from
 overflow_add-from c = search (count_entries_laws, rules)
 
 pub count_short_steps-t-requires : goal.count_short_steps-t-requires
-count_short_steps-t-requires c = 
+count_short_steps-t-requires c =
     count_standing
     (count_on c.loop-t.invariant c.loop-t-test.true c.rule_of-held.ensures c.count_entry-got.ensures c.in-On.is c.type_inv.s
     c.two_bits-value.ensures c.call_count.ensures c.category_before-old.ensures c.call_count-in-On.ensures)
 
 pub loop-t-preserved : goal.loop-t-preserved
-loop-t-preserved c = 
+loop-t-preserved c =
     c.count_short_steps-t.ensures.goes _ _
     (count_on c.loop-t.invariant c.loop-t-test.true c.rule_of-held.ensures c.count_entry-got.ensures c.in-On.is c.type_inv.s
     c.two_bits-value.ensures c.call_count.ensures c.category_before-old.ensures c.call_count-in-On.ensures)

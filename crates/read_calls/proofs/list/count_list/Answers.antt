@@ -21,6 +21,6 @@ pub returns-in-Refused-laid : goal.returns-in-Refused-laid
 returns-in-Refused-laid c = search (count_list_laws, rules)
 
 pub returns-in-Fits : goal.returns-in-Fits
-returns-in-Fits c = 
+returns-in-Fits c =
     count_fits _ _ _ _ _ (base_long c.args.base _ c.args.row.now _) c.type_inv.s c.requires.at_in_bounds.0 _ c.read_count-listed.ensures _ _
     c.in-Of.is c.if-m-eq0.false _ c.lay_parts-laid.ensures _ _ c.in-Fits.is _ c.count_entries.ensures

@@ -2,7 +2,6 @@
 -- Assumes nothing.
 use borrow.Author.Rules.{rules}
 use Rattle.read_list.proofs.LoopLaws.{put_laws, put_lists, put_on_room, put_on_with}
-use mathlib.Core.Path.{refl}
 use Rattle.read_list.proofs.entry.put_entries.Goals as goal
 
 pub returns-in-Refused : goal.returns-in-Refused

@@ -1,7 +1,6 @@
 -- `read_list::entry::put_short_steps` meets its contract.
 -- Assumes nothing.
-use borrow.Author.Rules.{rules}
-use Rattle.read_list.proofs.ShortWalks.{walk_laws, walk_turn}
+use Rattle.read_list.proofs.ShortWalks.{walk_turn}
 use mathlib.Core.Path.{ap}
 use mathlib.Core.Bool.{not}
 use Rattle.read_list.proofs.entry.put_short_steps.Goals as goal
