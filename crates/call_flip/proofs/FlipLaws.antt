@@ -1,7 +1,7 @@
 -- What a flip replies and leaves, by what the opening, the set and the records were found to be.
 -- Assumes nothing.
-use mathlib.Core.Path.{◌≡◌, refl, sym, ap, ap₂, ◌∙◌, subst}
-use Prim.Native.Nat.{ℕ, ◌+◌, ◌/◌, ◌%◌, ◌^◌, ◌≤◌, ◌<◌}
+use mathlib.Core.Path.{◌≡◌, sym, ap, ap₂, ◌∙◌, subst}
+use Prim.Native.Nat.{ℕ, ◌+◌, ◌/◌, ◌%◌, ◌^◌, ◌≤◌}
 use mathlib.Core.Bool.{Bool, true, false, ◌&&◌}
 use mathlib.Core.List.{List, [], ◌++◌}
 use lib.ListN.{length, get_or, drop, replicate, length-replicate}
@@ -31,7 +31,6 @@ use Rattle.format.proofs.FileLaws.{IsFile, file_as_written}
 use Rattle.head_index.specs.Stored.{Stored}
 use Rattle.head_index.proofs.StoredLaws.{stored_one, stored_layout}
 use Rattle.head_records.proofs.AcceptedLaws.{variants_most}
-use Rattle.head_places.specs.Located.{HasLayout}
 use Rattle.head_places.proofs.AcceptedLaws.{one_layout}
 use Rattle.call_open.specs.Open.{Opening, Open, Shut, open_out}
 use Rattle.call_open.proofs.Callers.{ready, shut, open_samples, open_variants}
@@ -168,8 +167,7 @@ module _ (file : List ℕ) (lent : ℕ) (f : Fields) (r : HeaderReply) (e : Open
           (subst (λ (bs : List ℕ). Stored K bs bs (layout_of_file w)) (sym h.written) (stored_layout K (layout_of_file w) (lit< tt) h.obeys.layout))
 
   -- and the work area still has room for a row
-  pub flip_ready : (work : List ℕ) → lent ≡ length work → (got : Reply) (work₁ : List ℕ) → RecordsChecked file file f work got work₁ → got ≡ Accepted
-      → length work₁ ≡ length work → whole.Accepted K file f × (f.samples ≤ length work₁)
-  flip_ready work h got work₁ d s e = (whole_accepted work got work₁ d s, omega (arith, found.room))
+  pub still_room : (work : List ℕ) → lent ≡ length work → (work₁ : List ℕ) → length work₁ ≡ length work → f.samples ≤ length work₁
+  still_room work h work₁ e = omega (arith, found.room)
 
-pub ruleset flip_laws = (flip_shut, few, wrong_set, bits_past, has_row, flip_records_refused, whole_accepted, flipped_call)
+pub ruleset flip_laws = (flip_shut, few, wrong_set, bits_past, has_row, flip_records_refused, whole_accepted, still_room, flipped_call)
