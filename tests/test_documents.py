@@ -101,7 +101,7 @@ class Documents(unittest.TestCase):
         told = set(spans(ROOT / "docs" / "ARCHITECTURE.md"))
         for line in (ROOT / "crates.txt").read_text(encoding="utf-8").splitlines():
             if not line.startswith("#"):
-                self.assertTrue(line.split(":")[0] in told, f"ARCHITECTURE.md does not tell of {line}")
+                self.assertTrue(re.split("[ :]", line)[0] in told, f"ARCHITECTURE.md does not tell of {line}")
 
     def test_demands_have_the_words_of_the_readme(self):
         readme = (ROOT / "README.md").read_text(encoding="utf-8")
