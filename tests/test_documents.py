@@ -54,8 +54,8 @@ class Documents(unittest.TestCase):
                     self.assertTrue(path.exists() or path.with_name(path.name + ".antt").exists(), f"{document.name}: {span}")
 
     def test_edits_are_there(self):
-        # out/ is not there before the first run
-        folders = {f.name for f in ROOT.iterdir() if f.is_dir()} | {"out"}
+        # out/ and target/ are not there before the first run
+        folders = {f.name for f in ROOT.iterdir() if f.is_dir()} | {"out", "target"}
         for document in DOCUMENTS:
             for span in spans(document):
                 if re.fullmatch(r"[a-z][a-z_]*/[a-z0-9_]+", span) and span.split("/")[0] not in folders:
