@@ -40,6 +40,11 @@ WORDS = (
     (r"the part (?:starts|ends)", "that what it takes of a slice is there"),
     (r"the index is", "that an index is within what it is taken of"),
 )
+# The same of a goal of a proof by hand, which has no name, by its first words: in this repository an equation is what a function ensures
+BY_HAND = (
+    (r"mathlib\.Core\.Path\.◌≡◌ ", "what it ensures"),
+    (r"Prim\.Native\.Nat\.◌[≤<]◌ ", "a bound that a call asks for"),
+)
 
 
 def told(edit):
@@ -103,6 +108,9 @@ def refused_at(crate, name, said):
         if Path(path).stem not in ("Answers", "Invariants", "Proof"):
             return f"`{of.group(1)}`, `{part}/{Path(path).stem}`"
         function, what = path.split("/")[-2].lstrip("+"), said_by(GOALS, of.group(1))
+        shown = re.search(r"no proof of `(.*)", text)
+        if Path(path).stem == "Proof" and shown:
+            what = said_by(BY_HAND, shown.group(1))
     if what is None:
         raise SystemExit(f"{crate}/{name}: what is that? {text[:200]}")
     return f"`{function}`: {what}"
