@@ -11,8 +11,8 @@ import statements  # noqa: E402
 DOCUMENTS = sorted([ROOT / "README.md", *(ROOT / "docs").glob("*.md"), *(ROOT / "tests").rglob("*.md")])
 # Documents that name definitions and theorems. The others speak of plink2's options too, which look alike.
 OF_NAMES = ("THEOREMS.md", "SCOPE-TRACE.md", "DECISIONS.md", "ARCHITECTURE.md")
-# What the prover asks of a function. It gives these names itself; no source has them.
-NEED = r"returns-\d+|loop-holds|loop-again|[a-z0-9-]+-requires"
+# What the prover asks of a function. It gives these names itself; a source has them only where a proof file answers them.
+GOAL = r"returns|(returns|loop|bounds|overflow_\w+|initial|prove)-[\w-]+|[\w-]+-requires"
 
 
 def spans(document):
@@ -54,8 +54,8 @@ class Documents(unittest.TestCase):
                     self.assertTrue(path.exists() or path.with_name(path.name + ".antt").exists(), f"{document.name}: {span}")
 
     def test_edits_are_there(self):
-        # target/ is not there before the first build
-        folders = {f.name for f in ROOT.iterdir() if f.is_dir()} | {"target"}
+        # out/ and target/ are not there before the first run
+        folders = {f.name for f in ROOT.iterdir() if f.is_dir()} | {"out", "target"}
         for document in DOCUMENTS:
             for span in spans(document):
                 if re.fullmatch(r"[a-z][a-z_]*/[a-z0-9_]+", span) and span.split("/")[0] not in folders:
@@ -101,25 +101,28 @@ class Documents(unittest.TestCase):
         told = set(spans(ROOT / "docs" / "ARCHITECTURE.md"))
         for line in (ROOT / "crates.txt").read_text(encoding="utf-8").splitlines():
             if not line.startswith("#"):
-                self.assertTrue(line.split(":")[0] in told, f"ARCHITECTURE.md does not tell of {line}")
+                self.assertTrue(re.split("[ :]", line)[0] in told, f"ARCHITECTURE.md does not tell of {line}")
 
     def test_demands_have_the_words_of_the_readme(self):
         readme = (ROOT / "README.md").read_text(encoding="utf-8")
         said = re.findall(r"(?ms)^\d\. (.*?)(?=^\d\. |^$)", readme[readme.index("Three promises") :])[:3]
         stated = (ROOT / "crates" / "promises" / "proofs" / "Demands.antt").read_text(encoding="utf-8")
-        quoted = re.findall(r'(?ms)^-- "([^"]*)"\npub record Demand-\d ', stated)
+        quoted = re.findall(r'(?ms)^-- "([^"]*)"\npub record Demand\d ', stated)
         self.assertEqual([" ".join(re.sub(r"(?m)^-- ", "", words).split()) for words in quoted], [" ".join(words.split()) for words in said])
         self.assertEqual(len(quoted), 3)
 
     def test_names_are_there(self):
-        words = set()
+        words = {name for edit in edits() for name in edit.split("/")}
         for source in sources():
-            words.update(re.findall(r"[A-Za-z][A-Za-z0-9-]*", source.read_text(encoding="utf-8")))
+            words.update(re.findall(r"[A-Za-z][A-Za-z0-9_'-]*", source.read_text(encoding="utf-8")))
+        # the trace names tests too
+        tests = set(re.findall(r"(?m)^ *(?:def|class) (\w+)", "\n".join(path.read_text(encoding="utf-8") for path in (ROOT / "tests").glob("*.py"))))
         for document in DOCUMENTS:
             if document.name in OF_NAMES:
+                known = words | tests if document.name == "SCOPE-TRACE.md" else words
                 for span in spans(document):
-                    if re.fullmatch(r"[a-z][a-z0-9]*(-[a-z0-9]+)+", span) and not re.fullmatch(NEED, span):
-                        self.assertTrue(span in words, f"{document.name}: {span}")
+                    if re.fullmatch(r"[a-z][a-z0-9]*([_-][a-z0-9]+)+", span) and not re.fullmatch(GOAL, span):
+                        self.assertTrue(span in known, f"{document.name}: {span}")
 
 
 if __name__ == "__main__":

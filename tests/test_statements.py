@@ -41,15 +41,15 @@ class Statements(unittest.TestCase):
         for file, old, new in (
             # a list of which a line is gone, and one of the examples
             (f"{PROMISES}/Orders.antt", "    ∷ (read A 3 4 gives (10 ∷ 0 ∷ 3 ∷ []))\n", ""),
-            ("crates/format/specs/Examples.antt", "    ∷ (row-of A 1 gives (0 ∷ 2 ∷ 2 ∷ 3 ∷ 1 ∷ []))\n", ""),
+            ("crates/format/specs/Examples.antt", "    ∷ (row_of A 1 gives (0 ∷ 2 ∷ 2 ∷ 3 ∷ 1 ∷ []))\n", ""),
             # a word that a line is made of
-            (f"{PROMISES}/Orders.antt", "header file = all-told (", "header file = all-told (λ x. x) ("),
+            (f"{PROMISES}/Orders.antt", "header file = all_told (", "header file = all_told (λ x. x) ("),
             # a premise more, of a law and of the module that it stands in
-            (f"{PROMISES}/CallLaws.antt", "pub check-exactly : (K : ℕ) (file", "pub check-exactly : (K : ℕ) → 5 < K → (file"),
+            (f"{PROMISES}/CallLaws.antt", "pub check_exactly : (K : ℕ) (file", "pub check_exactly : (K : ℕ) → 5 < K → (file"),
             (f"{PROMISES}/FlipPromises.antt", "(q : refusal file set work ≡ 0) where", "(q : refusal file set work ≡ 0) (none : set ≡ []) where"),
             # a definition that says less, and a contract
             ("crates/format/proofs/RowLaws.antt", "IsRow N row = ", "IsRow N row = Unit {0} × "),
-            ("crates/call_read/src/lib.rt", "⌜ lookup-left r (now (work .exit)) ≡", "⌜ lookup-left r (now (work .entry)) ≡"),
+            ("crates/call_read/src/lib.rt", "{ lookup_left result work.new ≡", "{ lookup_left result work.old ≡"),
         ):
             self.assertNotEqual(page_with(file, old, new), page, f"{file}: {new}")
 

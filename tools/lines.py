@@ -1,7 +1,7 @@
 """lines.py BASE [TREE]: lines added and taken out since a revision, crate by crate, as a landing note's table has them.
 
 Run in the tree (or give its folder). Counted are the lines of `git diff -U0 BASE` that are no comment, not blank and no `use`, `ghost use`, `mod` or `pub mod` line.
-Code is src/, Definitions specs/, Function proofs each Proof.antt, Laws what else is in proofs/. A file that moved counts as one taken out and one added.
+Code is src/, Definitions specs/, Function proofs each Invariants.antt, Answers.antt and Proof.antt, Laws what else is in proofs/. A file that moved counts as one taken out and one added.
 Then the module table of crates/format/specs, the specs of every crate, and the totals before and after.
 """
 import re
@@ -33,7 +33,7 @@ def column(path):
     if parts[2] == "specs" and path.endswith(".antt"):
         return parts[1], "Definitions"
     if parts[2] == "proofs" and path.endswith(".antt"):
-        return parts[1], "Function proofs" if parts[-1] == "Proof.antt" else "Laws"
+        return parts[1], "Function proofs" if parts[-1] in ("Invariants.antt", "Answers.antt", "Proof.antt") else "Laws"
     return None
 
 
@@ -73,7 +73,7 @@ def totals(revision):
 
 def order():
     """The crates as crates.txt has them."""
-    return [line.split(":")[0] for line in git("show", "HEAD:crates.txt").splitlines() if line and not line.startswith("#")]
+    return [re.split("[ :]", line)[0] for line in git("show", "HEAD:crates.txt").splitlines() if line and not line.startswith("#")]
 
 
 def told(pair):

@@ -72,14 +72,14 @@ def declared(text):
 
 def module_file(root, module):
     """The file of a module by the path that a `use` gives, if it is one of proofs/."""
-    of = re.fullmatch(r"Rattle·(\w+?)(?:·proofs)?\.proofs\.(\w+)", module)
+    of = re.fullmatch(r"Rattle\.(\w+)\.proofs\.(\w+)", module)
     path = root / "crates" / of.group(1) / "proofs" / f"{of.group(2)}.antt" if of else None
     return path if path and path.exists() else None
 
 
 def imported(root, text):
     """By name, the file of proofs/ that it is brought in from."""
-    pairs = re.findall(r"^use ([\w·.]+)\.\{([^}]*)\}", text, re.M)
+    pairs = re.findall(r"^use ([\w.]+)\.\{([^}]*)\}", text, re.M)
     homes = {module: module_file(root, module) for module, _ in pairs}
     return {name.strip(): homes[module] for module, names in pairs for name in names.split(",") if homes[module]}
 
@@ -123,14 +123,21 @@ def files_named(root, row):
             yield path
 
 
+def functions(sources):
+    """The functions of two words and more, and the public calls."""
+    found = {name for path in (sources.root / "crates").glob("*/src/*.rt") for name in re.findall(r"\bfn (\w+_\w+)", sources.text(path))}
+    return found | {call for call, _, _ in calls(sources) if "_" in call}
+
+
 def promises(sources, rows, shown):
-    """The laws that the rows of a part name: name and file. A name that neither its row's files nor an earlier row has is looked for in all files."""
-    everywhere = sorted((sources.root / "crates").glob("*/proofs/*.antt"))
+    """The laws that the rows of a part name: name and file. A name that neither its row's files nor an earlier row has is looked for in all files, unless it
+    is a function's: `next_row` is the call, and not a law that happens to have its name."""
+    everywhere, code = sorted((sources.root / "crates").glob("*/proofs/*.antt")), functions(sources)
     for row in rows:
         named = list(files_named(sources.root, row))
-        for name in re.findall(r"`([a-z][a-z0-9-]*)`", row):
+        for name in re.findall(r"`([a-z][a-z0-9_]*)`", row):
             laws = [path for path in named if (name, "law") in sources.of(path)]
-            if not laws and name not in {before for before, _ in shown}:
+            if not laws and name not in code and name not in {before for before, _ in shown}:
                 laws = [path for path in everywhere if (name, "law") in sources.of(path)]
             yield from ((name, path) for path in laws)
 
@@ -138,9 +145,10 @@ def promises(sources, rows, shown):
 def calls(sources):
     """The public calls: what a caller writes, the file where the call stands, and its name there. A crate may have it in a module, also without saying so."""
     listed = sources.text(sources.root / "crates" / "pgen" / "src" / "lib.rt")
-    for crate, name, alias in re.findall(r"^pub use (\w+)::(?:\w+::)*(\w+)(?: as (\w+))?;$", listed, re.M):
+    for crate, names in re.findall(r"^pub use (\w+)::(?:\w+::)*(\{[^}]*\}|\w+(?: as \w+)?);$", listed, re.M):
         files = sorted((sources.root / "crates" / crate / "src").glob("*.rt"))
-        yield alias or name, next(path for path in files if re.search(rf"(?m)^pub fn {name}\b", sources.text(path))), name
+        for name, alias in re.findall(r"(\w+)(?: as (\w+))?", names):
+            yield alias or name, next(path for path in files if re.search(rf"(?m)^pub fn {name}\b", sources.text(path))), name
 
 
 def contracts(sources):

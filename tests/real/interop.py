@@ -2,7 +2,7 @@
 
     python3 tests/real/interop.py [--keep FOLDER] [--plink2 PROGRAM] [--independent]
 
-It needs plink2 on the PATH and our programs built (rt check); with --independent the independent program of the tests answers in place of ours.
+It needs plink2 on the PATH and our programs built (rt ci); with --independent the independent program of the tests answers in place of ours.
 Each line is one thing that was looked at, under the page's number of the fact; one that begins with FAILED was not as the page says. With --keep
 the files stay in FOLDER, each with its .pvar and .psam, to be tried by hand.
 """
