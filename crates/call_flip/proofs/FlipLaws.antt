@@ -170,4 +170,9 @@ module _ (file : List ℕ) (lent : ℕ) (f : Fields) (r : HeaderReply) (e : Open
   pub still_room : (work : List ℕ) → lent ≡ length work → (work₁ : List ℕ) → length work₁ ≡ length work → f.samples ≤ length work₁
   still_room work h work₁ e = omega (arith, found.room)
 
+  -- both at once
+  pub flip_ready : (work : List ℕ) → lent ≡ length work → (got : Reply) (work₁ : List ℕ) → RecordsChecked file file f work got work₁ → got ≡ Accepted
+      → length work₁ ≡ length work → whole.Accepted K file f × (f.samples ≤ length work₁)
+  flip_ready work h got work₁ d s e = (whole_accepted work got work₁ d s, still_room work h work₁ e)
+
 pub ruleset flip_laws = (flip_shut, few, wrong_set, bits_past, has_row, flip_records_refused, whole_accepted, still_room, flipped_call)
