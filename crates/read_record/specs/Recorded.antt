@@ -28,8 +28,8 @@ whole_record end (list.Listed c) = pick (ltb c.at end) (Refused (refusal 13 c.at
 -- what follows the main track of a record that ends at `end`, by what its phase track was read as: none may be refused, and no byte left
 unfoldable pub end_replied : ℕ → Out Phases → Reply
 end_replied end (refused why) = Refused why
-end_replied end (ok phases []) = Accepted
-end_replied end (ok phases (b ∷ left)) = Refused (refusal 13 (end - suc (length left)))
+end_replied end (ok track []) = Accepted
+end_replied end (ok track (b ∷ left)) = Refused (refusal 13 (end - suc (length left)))
 
 -- 02, Ask 1: a phase track follows where the type says so, at `at`, over h heterozygous calls of the record's own row; 01, Replies: "Lastly 13"
 unfoldable pub end_checked : Bool → ℕ → List ℕ → ℕ → Reply
