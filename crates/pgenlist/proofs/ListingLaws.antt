@@ -122,6 +122,8 @@ module _ {file : List ℕ} {f : Fields} {work₀ row₀ out₀ work row out : Li
     pub nearer : f.variants - later.variant.0 < f.variants - rows.variant.0
     nearer = omega (arith, one_on)
 
+pub ruleset rows_laws = (few_variants, listing_begins, not_refused, listing_goes_on, nearer)
+
 -- ---- `list`
 
 pub listed : (file work work₁ row : List ℕ) (r : HeaderReply) (f : Fields) → check_left r work₁ ≡ check_call variants_to_a_block file work → r ≡ Accepted f

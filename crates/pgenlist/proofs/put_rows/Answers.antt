@@ -1,9 +1,20 @@
--- What the accepted check promises holds before the first variant.
-use Rattle.pgenlist.proofs.ListingLaws.{few_variants, listing_begins}
+-- `pgenlist::put_rows` meets its contract: the check's promise holds before each variant.
+-- Assumes nothing.
+use borrow.Author.Rules.{rules}
+use Rattle.pgenlist.proofs.ListingLaws.{rows_laws}
 use Rattle.pgenlist.proofs.put_rows.Goals as goal
 
 pub first_row-rows-requires : goal.first_row-rows-requires
-first_row-rows-requires c = few_variants _ _ _ _ c.requires c.type_inv.file
+first_row-rows-requires c = search (rows_laws, rules)
 
 pub loop-rows-init : goal.loop-rows-init
-loop-rows-init c = listing_begins _ _ _ _ c.requires c.type_inv.file _ _ c.first_row-rows.ensures
+loop-rows-init c = search (rows_laws, rules)
+
+pub take_row-rows-requires : goal.take_row-rows-requires
+take_row-rows-requires c = search (rows_laws, rules)
+
+pub loop-rows-smaller : goal.loop-rows-smaller
+loop-rows-smaller c = search (rows_laws, rules)
+
+pub loop-rows-preserved : goal.loop-rows-preserved
+loop-rows-preserved c = search (rows_laws, rules)
