@@ -90,7 +90,7 @@ def refused_at(crate, name, said):
     if said.startswith("refused, as it must be (only because"):
         raise SystemExit(f"{crate}/{name}: refused only since a proof file names what it took away, which shows nothing of a contract")
     if said.startswith("refused, as it must be (only by a limit"):
-        return "by a limit of the prover, which gave no verdict"
+        raise SystemExit(f"{crate}/{name}: refused only by a limit of the prover, which gave no verdict")
     found = re.match(r"refused, as it must be: (?:note: )?(?:\./)?(src|specs|proofs)/(\S+?):(\d+):\d+: (.*)", said)
     if found is None:
         raise SystemExit(f"{crate}/{name}: {said[:200]}")
