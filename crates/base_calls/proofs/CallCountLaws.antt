@@ -1,27 +1,21 @@
 -- H by its calls, one after another.
 -- Assumes nothing.
-use mathlib.Core.Path.{◌≡◌, refl}
+use mathlib.Core.Path.{◌≡◌}
 use Prim.Native.Nat.{ℕ, suc, ◌+◌, ◌≤◌}
 use native.Mathlib.Omega.{arith}
 use mathlib.Core.Bool.{Bool, true, false}
 use mathlib.Core.List.{List, ◌∷◌}
 use lib.Dec.{eqb}
+use mir.Val.{bool_byte}
 use Rattle.format.specs.Base.{pick}
 use Rattle.format.specs.Phase.{heterozygous, heterozygous_count}
 use Rattle.base_calls.specs.CallCount.{call_count}
 
--- ---- the ways out of `call_count`
-
-module _ (category : ℕ) where
-  pub call_counts : (b : Bool) → b ≡ heterozygous category → b ≡ true → 1 ≡ call_count category
-  unfolding call_count
-  call_counts b e t = rw (← e, t) refl
-
-  pub call_counts_not : (b : Bool) → b ≡ heterozygous category → b ≡ false → 0 ≡ call_count category
-  unfolding call_count
-  call_counts_not b e t = rw (← e, t) refl
-
-pub ruleset call_laws = (call_counts, call_counts_not)
+-- what `call_count` adds up
+pub call_adds : (category : ℕ) (b : Bool) → b ≡ heterozygous category → bool_byte b ≡ call_count category
+unfolding call_count
+call_adds category true e = rw (← e)
+call_adds category false e = rw (← e)
 
 -- ---- H of a row by its first call
 

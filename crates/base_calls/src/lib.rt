@@ -16,5 +16,5 @@ pub fn is_heterozygous(category: u8) -> bool
 pub fn call_count(category: u8) -> u8
     ensures { result ≡ call_count category }
 {
-    if is_heterozygous(category) { 1 } else { 0 }
+    u8::from(is_heterozygous(category))
 }

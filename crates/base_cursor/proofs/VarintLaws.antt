@@ -1,5 +1,6 @@
 -- What the answer of a varint at a place tells of the format's own reader.
 -- Assumes nothing.
+use Rattle.std.specs.Prelude.{Result, Ok, Err}
 use mathlib.Core.Path.{◌≡◌, refl, sym, ap, ◌∙◌}
 use Prim.Native.Nat.{ℕ, zero, suc, ◌+◌, ◌-◌, ◌^◌, ◌≤◌, ◌<◌}
 use mathlib.Core.List.{List, [], ◌∷◌}
@@ -11,12 +12,11 @@ use borrow.Author.Tests.{ltb-true, ltb-false}
 use Rattle.format.specs.declared.Refusal.{Refusal}
 use Rattle.format.specs.Base.{Out, ok, refused, Bytes}
 use Rattle.format.specs.Varint.{varint_limit, varint_bytes, read_varint_within, read_varint}
+use Rattle.format.proofs.Exits.{ok_parts}
 use Rattle.format.proofs.Rules.{Holds, by_test, by_need, by_map, below_drop}
 use Rattle.format.proofs.VarintLaws.{IsVarint, varint_as_written}
-use Rattle.base_cursor.specs.Steps.{varint_step, varint_rest, varint_at}
+use Rattle.base_cursor.specs.Steps.{step, varint_rest, varint_at}
 use Rattle.base_cursor.specs.declared.Cursor.{Cursor}
-use Rattle.base_cursor.specs.declared.VarintStep.{VarintStep}
-use Rattle.base_cursor.specs.declared.VarintStep.TheVariants.{Value, Refused}
 use Rattle.base_cursor.proofs.ByteLaws.{bytes_of}
 
 -- ---- a value that was read is small, so that the code's sum fits
@@ -50,13 +50,13 @@ few_limit (suc (suc (suc zero))) h = lit≤ tt
 few_limit (suc (suc (suc (suc more)))) h = absurd (omega arith)
 
 pub value_small : (l : List ℕ) (first more least at n : ℕ) (c : Cursor) → ((i : ℕ) → get_or l i 0 < 256) → more ≤ 4
-    → (r : VarintStep) → r ≡ varint_rest l first (more - 1) least at → r ≡ Value n c → n < 2 ^ 25
+    → (r : Result (ℕ × Cursor) Refusal) → r ≡ varint_rest l first (more - 1) least at → r ≡ Ok (n, c) → n < 2 ^ 25
 value_small l first more least at n c y h r e q =
     through (read_varint_within (length l) first (more - 1) least (drop at l)) (sym q ∙ e)
     (within_small (length l) first (more - 1) least (drop at l) (below_drop 256 at l (bytes_of l y)))
   where
-    through : (m : Out ℕ) → Value n c ≡ varint_step (length l) m → Holds (Small (more - 1)) m → n < 2 ^ 25
-    through (ok v x) p i = let q' : n ≡ v = cc in omega (arith, few_limit (more - 1) (omega arith))
+    through : (m : Out ℕ) → Ok (n, c) ≡ step (length l) m → Holds (Small (more - 1)) m → n < 2 ^ 25
+    through (ok v x) p i = let q' : n ≡ v = (ok_parts p).0 in omega (arith, few_limit (more - 1) (omega arith))
     through (refused why) p i = let z : ◌≡◌ {A = ℕ} 0 1 = cc in absurd (omega arith)
 
 -- ---- a value that was read ends further on
@@ -74,12 +74,12 @@ within_fewer end first (suc more) least (b ∷ bs) =
     by_test (Holds (Fewer (b ∷ bs))) (ltb b 128) (λ t. by_need (Fewer (b ∷ bs)) (leb least b) _ _ _ (λ u. omega arith))
     (λ t. by_map (Fewer bs) (Fewer (b ∷ bs)) (read_varint_within end first more 1 bs) _ (within_fewer end first more 1 bs) (λ n left h. omega arith))
 
-pub value_past : (l : List ℕ) (first more least at n : ℕ) (c : Cursor) → Value n c ≡ varint_rest l first more least at → at < c.at
+pub value_past : (l : List ℕ) (first more least at n : ℕ) (c : Cursor) → Ok (n, c) ≡ varint_rest l first more least at → at < c.at
 value_past l first more least at n c e =
     through (read_varint_within (length l) first more least (drop at l)) e (within_fewer (length l) first more least (drop at l))
   where
-    through : (m : Out ℕ) → Value n c ≡ varint_step (length l) m → Holds (Fewer (drop at l)) m → at < c.at
-    through (ok v left) p i = let q : c.at ≡ length l - length left = cc in omega (arith, i, length-drop at l)
+    through : (m : Out ℕ) → Ok (n, c) ≡ step (length l) m → Holds (Fewer (drop at l)) m → at < c.at
+    through (ok v left) p i = let q : c.at ≡ length l - length left = ap (λ (x : Cursor). x.at) (ok_parts p).1 in omega (arith, i, length-drop at l)
     through (refused why) p i = let z : ◌≡◌ {A = ℕ} 0 1 = cc in absurd (omega arith)
 
 -- ---- the answer and the reader
@@ -90,26 +90,26 @@ pub record Read (l : List ℕ) (at n : ℕ) (c : Cursor) : Type 0 where
   pub inside : c.at ≤ length l
   pub reads : read_varint (length l) (drop at l) ≡ ok n (drop c.at l)
 
-pub was_read : (l : List ℕ) (at n : ℕ) (c : Cursor) → ((i : ℕ) → get_or l i 0 < 256) → at ≤ length l → Value n c ≡ varint_at l at → Read l at n c
+pub was_read : (l : List ℕ) (at n : ℕ) (c : Cursor) → ((i : ℕ) → get_or l i 0 < 256) → at ≤ length l → Ok (n, c) ≡ varint_at l at → Read l at n c
 unfolding varint_at
 was_read l at n c y h e =
     through (read_varint (length l) (drop at l)) refl e (varint_as_written (length l) (drop at l) (below_drop 256 at l (bytes_of l y)))
   where
-    through : (m : Out ℕ) → read_varint (length l) (drop at l) ≡ m → Value n c ≡ varint_step (length l) m → Holds (IsVarint (drop at l)) m → Read l at n c
+    through : (m : Out ℕ) → read_varint (length l) (drop at l) ≡ m → Ok (n, c) ≡ step (length l) m → Holds (IsVarint (drop at l)) m → Read l at n c
     through (refused why) q p w = absurd (let z : ◌≡◌ {A = ℕ} 0 1 = cc in omega arith)
     through (ok v left) q p w =
         let bytes : List ℕ = varint_bytes v in
-        let value : n ≡ v = cc in
-        let place : c.at ≡ length l - length left = cc in
+        let value : n ≡ v = (ok_parts p).0 in
+        let place : c.at ≡ length l - length left = ap (λ (x : Cursor). x.at) (ok_parts p).1 in
         let both : length l - at ≡ length bytes + length left = sym (length-drop at l) ∙ ap length w.0 ∙ length-append bytes left in
         let moved : at + length bytes ≡ c.at = omega arith in
         let rest : drop c.at l ≡ left = rw (← moved, ← drop-drop (length bytes) at l, w.0) (drop_at bytes left (length bytes) refl) in
         record { on = omega arith; inside = omega arith; reads = rw (value, rest) q }
 
-pub was_refused : (l : List ℕ) (at : ℕ) (why : Refusal) → Refused why ≡ varint_at l at → read_varint (length l) (drop at l) ≡ refused why
+pub was_refused : (l : List ℕ) (at : ℕ) (why : Refusal) → Err why ≡ varint_at l at → read_varint (length l) (drop at l) ≡ refused why
 unfolding varint_at
 was_refused l at why e = through (read_varint (length l) (drop at l)) e
   where
-    through : (m : Out ℕ) → Refused why ≡ varint_step (length l) m → m ≡ refused why
+    through : (m : Out ℕ) → Err why ≡ step (length l) m → m ≡ refused why
     through (ok v x) q = absurd (let z : ◌≡◌ {A = ℕ} 0 1 = cc in omega arith)
     through (refused because) q = cc

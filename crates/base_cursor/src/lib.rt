@@ -13,27 +13,6 @@ pub struct Cursor {
     pub at: usize,
 }
 
-// A byte with the next cursor, or a refusal.
-#[derive(Clone, Copy)]
-pub enum ByteStep {
-    Byte(u8, Cursor),
-    Refused(Refusal),
-}
-
-// A varint's value with the next cursor, or a refusal.
-#[derive(Clone, Copy)]
-pub enum VarintStep {
-    Value(usize, Cursor),
-    Refused(Refusal),
-}
-
-// The value of a varint of one byte or two, in its shortest form, with the next cursor; or that none stands there.
-#[derive(Clone, Copy)]
-pub enum ShortStep {
-    Short(usize, Cursor),
-    NotShort,
-}
-
 // A number of some bytes, with the next cursor.
 #[derive(Clone, Copy)]
 pub struct NumberStep {
@@ -42,85 +21,82 @@ pub struct NumberStep {
 }
 
 // A varint that started at `first`: at most `more` bytes follow the one at the cursor, and the last is at least `least` ("in its shortest form").
-fn varint_from(s: &[u8], first: usize, more: usize, least: u8, c: Cursor) -> VarintStep
+fn varint_from(
+    s: &[u8],
+    first: usize,
+    more: usize,
+    least: u8,
+    c: Cursor,
+) -> Result<(usize, Cursor), Refusal>
     requires { (more ≤ 4) × (least ≤ 1) }
     ensures { result ≡ varint_rest s.now first more least c.at }
 {
-    let got = c.byte(s);
-    match got {
-        ByteStep::Refused(why) => VarintStep::Refused(why),
-        ByteStep::Byte(b, next) => {
-            if b < least {
-                return VarintStep::Refused(refusal_at(15, first));
-            }
-            if more == 0 {
-                if b < 16 {
-                    return VarintStep::Value(b as usize, next);
-                }
-                return VarintStep::Refused(refusal_at(15, first));
-            }
-            if b < 128 {
-                return VarintStep::Value(b as usize, next);
-            }
-            let rest = varint_from(s, first, more - 1, 1, next);
-            match rest {
-                VarintStep::Value(n, end) => VarintStep::Value(128 * n + (b - 128) as usize, end),
-                VarintStep::Refused(why) => VarintStep::Refused(why),
-            }
-        }
+    let (b, next) = c.byte(s)?;
+    if b < least {
+        return Err(refusal_at(15, first));
     }
+    if more == 0 {
+        if b < 16 {
+            return Ok((b as usize, next));
+        }
+        return Err(refusal_at(15, first));
+    }
+    if b < 128 {
+        return Ok((b as usize, next));
+    }
+    let (n, end) = varint_from(s, first, more - 1, 1, next)?;
+    Ok((128 * n + (b - 128) as usize, end))
 }
 
 impl Cursor {
     // 01, Replies: 12, "record ends too soon", at the "record's end".
-    pub fn byte(self, s: &[u8]) -> ByteStep
+    pub fn byte(self, s: &[u8]) -> Result<(u8, Cursor), Refusal>
         ensures { result ≡ byte_at s.now self.at }
     {
         let at = self.at;
         if at < s.len() {
-            return ByteStep::Byte(s[at], Cursor { at: at + 1 });
+            return Ok((s[at], Cursor { at: at + 1 }));
         }
-        ByteStep::Refused(refusal_at(12, s.len()))
+        Err(refusal_at(12, s.len()))
     }
 
     // 01, Difference lists: "A varint is base 128, low part first, at most five bytes, value below 4,294,967,296, in its shortest form."
-    pub fn varint(self, s: &[u8]) -> VarintStep
+    pub fn varint(self, s: &[u8]) -> Result<(usize, Cursor), Refusal>
         requires { self.at ≤ length s.now }
         ensures { result ≡ varint_at s.now self.at }
     {
-        let got = self.short(s);
-        match got {
-            ShortStep::Short(value, next) => VarintStep::Value(value, next),
-            ShortStep::NotShort => varint_from(s, self.at, 4, 0, self),
+        match self.short(s) {
+            Some(read) => Ok(read),
+            None => varint_from(s, self.at, 4, 0, self),
         }
     }
 
     // A varint of one byte or two: by far the commonest, so read where no call is needed.
-    pub fn short(self, s: &[u8]) -> ShortStep
+    pub fn short(self, s: &[u8]) -> Option<(usize, Cursor)>
         ensures { result ≡ short_at s.now self.at }
     {
         let first = self.at;
         if first >= s.len() {
-            return ShortStep::NotShort;
+            return None;
         }
         let low = s[first];
         if low < 128 {
-            return ShortStep::Short(low as usize, Cursor { at: first + 1 });
+            return Some((low as usize, Cursor { at: first + 1 }));
         }
         if first + 1 >= s.len() {
-            return ShortStep::NotShort;
+            return None;
         }
         let high = s[first + 1];
         if high >= 128 {
-            return ShortStep::NotShort;
+            return None;
         }
         if high == 0 {
-            return ShortStep::NotShort;
+            return None;
         }
-        ShortStep::Short(
+        Some((
             128 * (high as usize) + (low - 128) as usize,
             Cursor { at: first + 2 },
-        )
+        ))
     }
 
     // A number of `width` bytes, one or two, "little-endian": a head, or a size byte.

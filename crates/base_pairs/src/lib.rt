@@ -4,7 +4,7 @@
 ghost use Rattle.std.specs.Prelude.{◌≡◌, ◌<◌};
 ghost use Rattle.format.specs.PairCode.{pair_at, found};
 
-use format::{Pair, PairFound};
+use format::Pair;
 
 // 01: "1 is 0,1; 2 is 0,2; 3 is 0,3; 5 is 1,2; 6 is 1,3; 9 is 2,3"
 const PAIRS: [Pair; 6] = [
@@ -61,16 +61,16 @@ fn pair_row(i: usize) -> Pair
 }
 
 // The pair of a code byte.
-pub fn pair_of(code: u8) -> PairFound
+pub fn pair_of(code: u8) -> Option<Pair>
     ensures { result ≡ found code }
 {
     match code {
-        1 => PairFound::Known(pair_row(0)),
-        2 => PairFound::Known(pair_row(1)),
-        3 => PairFound::Known(pair_row(2)),
-        5 => PairFound::Known(pair_row(3)),
-        6 => PairFound::Known(pair_row(4)),
-        9 => PairFound::Known(pair_row(5)),
-        _ => PairFound::Unknown,
+        1 => Some(pair_row(0)),
+        2 => Some(pair_row(1)),
+        3 => Some(pair_row(2)),
+        5 => Some(pair_row(3)),
+        6 => Some(pair_row(4)),
+        9 => Some(pair_row(5)),
+        _ => None,
     }
 }

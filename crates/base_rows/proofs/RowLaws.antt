@@ -1,14 +1,13 @@
 -- A row that a loop writes from the front, one store a turn: what holds before a turn, how a turn goes, and what the row is at the end.
 -- Assumes nothing.
 use mathlib.Core.Path.{◌≡◌, refl, ◌∙◌}
-use Prim.Native.Nat.{ℕ, zero, suc, ◌+◌, ◌≤◌, ◌<◌}
+use Prim.Native.Nat.{ℕ, suc, ◌+◌, ◌≤◌, ◌<◌}
 use native.Mathlib.Omega.{arith}
 use native.Mathlib.Numerals.{add-one}
-use mathlib.Core.List.{List, [], ◌∷◌, ◌++◌, map, map-append, append_assoc}
-use lib.ListN.{length, get_or, set, take, drop, replicate, length-append, length-set, replicate-append-replicate}
-use lib.Bits.{bit_xor, xor_zero_l, xor_zero_r, xor_self}
+use mathlib.Core.List.{List, [], ◌∷◌, ◌++◌, map, map-append, append-nil, append_assoc}
+use lib.ListN.{length, get_or, set, take, drop, drop_of_length-le, length-append, length-set}
+use Rattle.std.proofs.lemmas.List.{take_all}
 use lib.Seq.{take-suc, drop-cons, set_at, get_or_at}
-use Rattle.format.specs.Category.{exchange}
 
 -- before turn i of n: `front` was stored, before what the row still has of the old one
 pub record Written (n : ℕ) (old row front : List ℕ) (i : ℕ) : Type 0 where
@@ -41,30 +40,10 @@ module _ (n : ℕ) (old row front : List ℕ) (i : ℕ) (w : Written n old row f
       is = rw (w.is, rest, set_at front _ _ v i w.made, append_assoc, add-one);
     }
 
--- one category
-pub fill_turn : (n : ℕ) (old row : List ℕ) (i v : ℕ) → Written n old row (replicate i v) i → i < n
-    → Written n old (set row i v) (replicate (i + 1) v) (i + 1)
-fill_turn n old row i v w h = rw (← replicate-append-replicate i 1 v) (stored n old row (replicate i v) i w h v)
-
-pub filled : (n : ℕ) (old row : List ℕ) (i v : ℕ) → Written n old row (replicate i v) i → n ≤ i → row ≡ replicate n v ++ drop n old
-filled n old row i v w h = rw (whole n old row (replicate i v) i w h) at w.is
-
-pub ruleset fill_laws = (unwritten, fill_turn, filled)
-
--- another row
+-- each of its own values changed
 one_more : (from : List ℕ) (i : ℕ) → i < length from → take (i + 1) from ≡ take i from ++ (get_or from i 0 ∷ [])
 one_more from i h = rw add-one (take-suc from i 0 h)
 
-pub copy_turn : (n : ℕ) (old row from : List ℕ) (i : ℕ) → Written n old row (take i from) i → i < n → n ≤ length from
-    → Written n old (set row i (get_or from i 0)) (take (i + 1) from) (i + 1)
-copy_turn n old row from i w h g = rw (one_more from i (omega arith)) (stored n old row (take i from) i w h (get_or from i 0))
-
-pub copied : (n : ℕ) (old row from : List ℕ) (i : ℕ) → Written n old row (take i from) i → n ≤ i → row ≡ take n from ++ drop n old
-copied n old row from i w h = rw (whole n old row (take i from) i w h) at w.is
-
-pub ruleset copy_laws = (unwritten, copy_turn, copied)
-
--- each of its own values changed
 module _ (f : ℕ → ℕ) (n : ℕ) (old row : List ℕ) (i : ℕ) (w : Written n old row (map f (take i old)) i) where
   pub map_turn : i < n → (v : ℕ) → v ≡ f (get_or row i 0) → Written n old (set row i v) (map f (take (i + 1) old)) (i + 1)
   map_turn h v e =
@@ -76,21 +55,14 @@ module _ (f : ℕ → ℕ) (n : ℕ) (old row : List ℕ) (i : ℕ) (w : Written
 
 pub ruleset map_laws = (unwritten, map_turn, mapped)
 
-exchange_kept : (n : ℕ) → (n ≡ 0 → ⊥) → (n ≡ 2 → ⊥) → n ≡ exchange n
-exchange_kept zero p q = absurd (p refl)
-exchange_kept (suc zero) p q = refl
-exchange_kept (suc (suc zero)) p q = absurd (q refl)
-exchange_kept (suc (suc (suc n))) p q = refl
-
--- ---- the bit by which a category is exchanged
-
-pub zero_turned : (n : ℕ) → n ≡ 0 → bit_xor n 2 ≡ exchange n
-zero_turned n e = rw e (xor_zero_l 2)
-
-pub two_turned : (n : ℕ) → n ≡ 2 → bit_xor n 2 ≡ exchange n
-two_turned n e = rw e (xor_self 2)
-
-pub none_turned : (n : ℕ) → (n ≡ 0 → ⊥) → (n ≡ 2 → ⊥) → bit_xor n 0 ≡ exchange n
-none_turned n p q = xor_zero_r n ∙ exchange_kept n p q
-
-pub ruleset turned_laws = (zero_turned, two_turned, none_turned)
+-- the front of a row, all of it written, before the rest
+pub front_mapped : (f : ℕ → ℕ) (n : ℕ) (row front : List ℕ) (i : ℕ)
+    → Written (length (take n row)) (take n row) front (map f (take i (take n row))) i → length (take n row) ≤ i
+    → front ++ drop n row ≡ map f (take n row) ++ drop n row
+front_mapped f n row front i w h =
+    rw (
+      mapped f (length (take n row)) (take n row) front i w h,
+      take_all (length (take n row)) (take n row) (omega arith),
+      drop_of_length-le (take n row) {i = length (take n row)} (omega arith),
+      append-nil,
+    )

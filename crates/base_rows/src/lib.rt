@@ -10,9 +10,7 @@ pub fn fill(row: &mut [u8], n: usize, category: u8)
     requires { n ≤ length row.old }
     ensures { row.new ≡ replicate n category ++ drop n row.old }
 {
-    for i in 0..n {
-        row[i] = category;
-    }
+    row[..n].fill(category);
 }
 
 // 01, Replies: "its first N bytes are zero and the rest unchanged".
@@ -28,22 +26,14 @@ pub fn copy(from: &[u8], n: usize, to: &mut [u8])
     requires { (n ≤ length from.now) × (n ≤ length to.old) }
     ensures { to.new ≡ take n from.now ++ drop n to.old }
 {
-    for i in 0..n {
-        to[i] = from[i];
-    }
+    to[..n].copy_from_slice(&from[..n]);
 }
 
 // The bit that 0 and 2 differ in, for either of them, and none for another category.
 fn turned_bit(category: u8) -> u8
     ensures { bit_xor category result ≡ exchange category }
 {
-    if category == 0 {
-        return 2;
-    }
-    if category == 2 {
-        return 2;
-    }
-    0
+    if category == 0 || category == 2 { 2 } else { 0 }
 }
 
 // A category with 0 and 2 exchanged: by a bit, of which the compiler makes a flat loop over a row; of the category itself by two tests it makes branches.
@@ -58,8 +48,8 @@ pub fn exchange_row(row: &mut [u8], n: usize)
     requires { n ≤ length row.old }
     ensures { row.new ≡ exchange_all true (take n row.old) ++ drop n row.old }
 {
-    for i in 0..n {
-        row[i] = exchanged(row[i]);
+    for category in &mut row[..n] {
+        *category = exchanged(*category);
     }
 }
 
@@ -67,5 +57,5 @@ pub fn exchange_row(row: &mut [u8], n: usize)
 pub fn larger(a: u8, b: u8) -> u8
     ensures { (a ≤ result) × (b ≤ result) }
 {
-    if a < b { b } else { a }
+    a.max(b)
 }

@@ -1,5 +1,6 @@
 -- What a flip replies and leaves, by what the opening, the set and the records were found to be.
 -- Assumes nothing.
+use Rattle.std.specs.Prelude.{Result, Ok, Err, ⊤}
 use mathlib.Core.Path.{◌≡◌, sym, ap, ap₂, ◌∙◌, subst}
 use Prim.Native.Nat.{ℕ, ◌+◌, ◌/◌, ◌%◌, ◌^◌, ◌≤◌}
 use mathlib.Core.Bool.{Bool, true, false, ◌&&◌}
@@ -13,10 +14,6 @@ use native.Mathlib.Omega.{arith}
 use borrow.Author.Tests.{le-leb, eq-eqb, ne_eqb}
 use Rattle.format.specs.declared.Fields.{Fields}
 use Rattle.format.specs.declared.Refusal.{Refusal}
-use Rattle.format.specs.declared.HeaderReply.{HeaderReply}
-use Rattle.format.specs.declared.HeaderReply.TheVariants as header
-use Rattle.format.specs.declared.Reply.{Reply}
-use Rattle.format.specs.declared.Reply.TheVariants.{Accepted, Refused}
 use Rattle.format.specs.Base.{Out, ok, refused, refusal, bind, need_of, named}
 use Rattle.format.specs.Limits.{variants_to_a_block}
 use Rattle.format.specs.Body.{Body}
@@ -65,14 +62,14 @@ module _ (file set work : List ℕ) (why : Refusal) where
       by_room false false q = q
 
   -- 1 to 10
-  pub flip_shut : (r : HeaderReply) → Opening file (length work) r → r ≡ header.Refused why → flip_left (Refused why) file work ≡ flip_call K file set work
+  pub flip_shut : (r : Result Fields Refusal) → Opening file (length work) r → r ≡ Err why → flip_left (Err why) file work ≡ flip_call K file set work
   unfolding flip_call
   flip_shut r e q =
       let s : Shut (open_out K file (length work)) why = shut file (length work) r why e q in
       let k : flip_out K file set work ≡ refused why = shut_out (read_layout K file) s.is in
       simp (k, s.keeps)
 
-module _ (file set work : List ℕ) (f : Fields) (r : HeaderReply) (e : Opening file (length work) r) (q : r ≡ header.Accepted f) where
+module _ (file set work : List ℕ) (f : Fields) (r : Result Fields Refusal) (e : Opening file (length work) r) (q : r ≡ Ok f) where
   o : Open file (length work) f
   o = ready file (length work) r f e q
 
@@ -87,7 +84,7 @@ module _ (file set work : List ℕ) (f : Fields) (r : HeaderReply) (e : Opening 
 
   -- 10
   pub wrong_set : (z : Refusal) → z ≡ named (no_variant f.variants) (refusal 10 0) → (length set ≡ (f.variants + 7) / 8 → ⊥)
-      → flip_left (Refused z) file work ≡ flip_call K file set work
+      → flip_left (Err z) file work ≡ flip_call K file set work
   unfolding flip_call
   wrong_set z a s = rw (a, variants) (simp (o.accepted, ne_eqb (length set) ((length o.layout.bodies + 7) / 8) (λ h. s (rw variants h))))
 
@@ -97,12 +94,12 @@ module _ (file set work : List ℕ) (f : Fields) (r : HeaderReply) (e : Opening 
 
     -- 21
     pub bits_past : (z : Refusal) → z ≡ named (no_variant f.variants) (refusal 21 0) → (past ≡ 0 → ⊥)
-        → flip_left (Refused z) file work ≡ flip_call K file set work
+        → flip_left (Err z) file work ≡ flip_call K file set work
     unfolding flip_call
     bits_past z a s =
         rw (a, variants) (simp (o.accepted, holds, room, ne_eqb (past_last (length o.layout.bodies) set) 0 (λ h. s (rw (p, variants) h))))
 
-    module _ (none : past ≡ 0) (got : Reply) (work₁ : List ℕ) (d : RecordsChecked file file f work got work₁) where
+    module _ (none : past ≡ 0) (got : Result ⊤ Refusal) (work₁ : List ℕ) (d : RecordsChecked file file f work got work₁) where
       clear : eqb (past_last (length o.layout.bodies) set) 0 ≡ true
       clear = eq-eqb (past_last (length o.layout.bodies) set) 0 (rw (← variants, ← p) none)
 
@@ -113,15 +110,15 @@ module _ (file set work : List ℕ) (f : Fields) (r : HeaderReply) (e : Opening 
       left_work = rw (← samples) (checked_row d)
 
       -- 12 to 18 and 23 to 25
-      pub flip_records_refused : (why : Refusal) → got ≡ Refused why → flip_left (Refused why) file work₁ ≡ flip_call K file set work
+      pub flip_records_refused : (why : Refusal) → got ≡ Err why → flip_left (Err why) file work₁ ≡ flip_call K file set work
       unfolding flip_call
       flip_records_refused why s =
           let x : Clears (read_all K o.layout) why = subst (λ (l : Layout). Clears (read_all K l) why) same (checked_refused d o.bytes why s) in
           rw left_work (simp (o.accepted, holds, room, clear, x.is, x.clears))
 
       -- accepted
-      pub flipped_call : got ≡ Accepted → (file₁ work₂ : List ℕ) → file₁ ≡ flip_bytes K (member set) file → work₂ ≡ emptied f.samples work₁
-          → flip_left Accepted file₁ work₂ ≡ flip_call K file set work
+      pub flipped_call : got ≡ Ok tt → (file₁ work₂ : List ℕ) → file₁ ≡ flip_bytes K (member set) file → work₂ ≡ emptied f.samples work₁
+          → flip_left (Ok tt) file₁ work₂ ≡ flip_call K file set work
       unfolding flip_call
       flipped_call s file₁ work₂ b k =
           let still : work₂ ≡ emptied o.layout.samples work = k ∙ ap₂ emptied samples left_work ∙ emptied_twice o.layout.samples work in
@@ -138,7 +135,7 @@ file_read : (bs : List ℕ) (l : Layout) (bodies : List Body) (left : List ℕ) 
 unfolding read_file
 file_read bs l bodies left a b = simp (a, b)
 
-module _ (file : List ℕ) (lent : ℕ) (f : Fields) (r : HeaderReply) (e : Opening file lent r) (q : r ≡ header.Accepted f) where
+module _ (file : List ℕ) (lent : ℕ) (f : Fields) (r : Result Fields Refusal) (e : Opening file lent r) (q : r ≡ Ok f) where
   found : Open file lent f
   found = ready file lent r f e q
 
@@ -150,7 +147,8 @@ module _ (file : List ℕ) (lent : ℕ) (f : Fields) (r : HeaderReply) (e : Open
       record { has = record { layout = found.layout; stored = found.stored; fields_are = found.fields_are }; room = rw (← h) found.room }
 
   -- every record is accepted, so the file is
-  pub whole_accepted : (work : List ℕ) (got : Reply) (work₁ : List ℕ) → RecordsChecked file file f work got work₁ → got ≡ Accepted → whole.Accepted K file f
+  pub whole_accepted : (work : List ℕ) (got : Result ⊤ Refusal) (work₁ : List ℕ) → RecordsChecked file file f work got work₁ → got ≡ Ok tt
+      → whole.Accepted K file f
   unfolding file_bytes
   whole_accepted work got work₁ d s =
       let x : WasRead (List Body) (read_all K found.layout)
@@ -171,7 +169,7 @@ module _ (file : List ℕ) (lent : ℕ) (f : Fields) (r : HeaderReply) (e : Open
   still_room work h work₁ e = omega (arith, found.room)
 
   -- both at once
-  pub flip_ready : (work : List ℕ) → lent ≡ length work → (got : Reply) (work₁ : List ℕ) → RecordsChecked file file f work got work₁ → got ≡ Accepted
+  pub flip_ready : (work : List ℕ) → lent ≡ length work → (got : Result ⊤ Refusal) (work₁ : List ℕ) → RecordsChecked file file f work got work₁ → got ≡ Ok tt
       → length work₁ ≡ length work → whole.Accepted K file f × (f.samples ≤ length work₁)
   flip_ready work h got work₁ d s e = (whole_accepted work got work₁ d s, still_room work h work₁ e)
 

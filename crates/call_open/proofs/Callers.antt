@@ -1,5 +1,6 @@
 -- What a reply of an opening tells its caller, and what a call's definition is then.
 -- Assumes nothing.
+use Rattle.std.specs.Prelude.{Result, Ok, Err}
 use mathlib.Core.Path.{◌≡◌, refl, ap, ◌∙◌, sym}
 use Prim.Native.Nat.{ℕ, min, ◌<◌}
 use mathlib.Core.Bool.{Bool, true, false, ◌&&◌}
@@ -11,8 +12,6 @@ use borrow.Author.Tests.{le-leb, lt-leb, lt-ltb, leb-true, leb-false}
 use Rattle.format.specs.declared.FileVariant.{FileVariant}
 use Rattle.format.specs.declared.Fields.{Fields}
 use Rattle.format.specs.declared.Refusal.{Refusal}
-use Rattle.format.specs.declared.HeaderReply.{HeaderReply}
-use Rattle.format.specs.declared.HeaderReply.TheVariants.{Accepted, Refused}
 use Rattle.format.specs.Base.{Out, ok, refused, bind, refuse_of, need_of}
 use Rattle.format.specs.Limits.{variants_to_a_block}
 use Rattle.format.specs.Layout.{Layout}
@@ -24,21 +23,21 @@ use Rattle.call_open.specs.Open.{open_out, open_at_out, Open, OpenAt, Shut, Open
 
 -- ---- the reply
 
-pub ready : (file : List ℕ) (lent : ℕ) (r : HeaderReply) (f : Fields) → Opening file lent r → r ≡ Accepted f → Open file lent f
+pub ready : (file : List ℕ) (lent : ℕ) (r : Result Fields Refusal) (f : Fields) → Opening file lent r → r ≡ Ok f → Open file lent f
 unfolding Opening
 ready file lent r f e q = rw q at e
 
-pub shut : (file : List ℕ) (lent : ℕ) (r : HeaderReply) (why : Refusal) → Opening file lent r → r ≡ Refused why
+pub shut : (file : List ℕ) (lent : ℕ) (r : Result Fields Refusal) (why : Refusal) → Opening file lent r → r ≡ Err why
     → Shut (open_out variants_to_a_block file lent) why
 unfolding Opening
 shut file lent r why e q = rw q at e
 
-pub ready_at : (file : List ℕ) (v : FileVariant) (lent : ℕ) (r : HeaderReply) (f : Fields) → OpeningAt file v lent r → r ≡ Accepted f
+pub ready_at : (file : List ℕ) (v : FileVariant) (lent : ℕ) (r : Result Fields Refusal) (f : Fields) → OpeningAt file v lent r → r ≡ Ok f
     → OpenAt file v lent f
 unfolding OpeningAt
 ready_at file v lent r f e q = rw q at e
 
-pub shut_at : (file : List ℕ) (v : FileVariant) (lent : ℕ) (r : HeaderReply) (why : Refusal) → OpeningAt file v lent r → r ≡ Refused why
+pub shut_at : (file : List ℕ) (v : FileVariant) (lent : ℕ) (r : Result Fields Refusal) (why : Refusal) → OpeningAt file v lent r → r ≡ Err why
     → Shut (open_at_out variants_to_a_block file v lent) why
 unfolding OpeningAt
 shut_at file v lent r why e q = rw q at e

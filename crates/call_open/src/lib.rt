@@ -1,11 +1,11 @@
 // The opening of a public call: the header check, then the sizes of what was lent, then the variant.
 #![tactic(auto)]
 
-ghost use Rattle.std.specs.Prelude.{◌≡◌, min};
+ghost use Rattle.std.specs.Prelude.{◌≡◌};
 ghost use Rattle.format.specs.Base.{refusal, named};
 ghost use Rattle.call_open.specs.Open.{Opening, OpeningAt};
 
-use format::{FileVariant, HeaderReply, Refusal, refusal_of};
+use format::{Fields, FileVariant, Refusal, refusal_of};
 
 // 01, Replies: 10, 11 and 21, which "depend on the call's other arguments", have place 0. 02, Ask 2: they name a variant, "M where no variant is
 // concerned".
@@ -15,41 +15,24 @@ pub fn call_refusal(number: u8, variant: FileVariant) -> Refusal
     refusal_of(variant, number, 0)
 }
 
-// The shorter of two lent buffers.
-pub fn shorter(a: usize, b: usize) -> usize
-    ensures { result ≡ min a b }
-{
-    if a < b { a } else { b }
-}
-
 // 1 to 9, then 10, "a lent buffer of wrong size": lent is the length of the shortest buffer that is to hold a row.
-pub fn open(file: &[u8], lent: usize) -> HeaderReply
+pub fn open(file: &[u8], lent: usize) -> Result<Fields, Refusal>
     ensures { Opening file.now lent result }
 {
-    let found = head_check::check(file);
-    match found {
-        HeaderReply::Refused(why) => HeaderReply::Refused(why),
-        HeaderReply::Accepted(f) => {
-            if lent < f.samples {
-                return HeaderReply::Refused(call_refusal(10, FileVariant(f.variants)));
-            }
-            HeaderReply::Accepted(f)
-        }
+    let f = head_check::check(file)?;
+    if lent < f.samples {
+        return Err(call_refusal(10, FileVariant(f.variants)));
     }
+    Ok(f)
 }
 
 // The same, then 11, "variant not below M".
-pub fn open_at(file: &[u8], variant: FileVariant, lent: usize) -> HeaderReply
+pub fn open_at(file: &[u8], variant: FileVariant, lent: usize) -> Result<Fields, Refusal>
     ensures { OpeningAt file.now variant lent result }
 {
-    let found = open(file, lent);
-    match found {
-        HeaderReply::Refused(why) => HeaderReply::Refused(why),
-        HeaderReply::Accepted(f) => {
-            if variant.0 >= f.variants {
-                return HeaderReply::Refused(call_refusal(11, FileVariant(f.variants)));
-            }
-            HeaderReply::Accepted(f)
-        }
+    let f = open(file, lent)?;
+    if variant.0 >= f.variants {
+        return Err(call_refusal(11, FileVariant(f.variants)));
     }
+    Ok(f)
 }

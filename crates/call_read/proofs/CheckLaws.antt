@@ -1,15 +1,12 @@
 -- What the whole-file check replies and leaves, by what the opening and the records were found to be.
 -- Assumes nothing.
+use Rattle.std.specs.Prelude.{Result, Ok, Err, ⊤}
 use mathlib.Core.Path.{◌≡◌, refl, sym, ap, ◌∙◌}
 use Prim.Native.Nat.{ℕ}
 use mathlib.Core.List.{List}
 use lib.ListN.{length}
 use Rattle.format.specs.declared.Fields.{Fields}
 use Rattle.format.specs.declared.Refusal.{Refusal}
-use Rattle.format.specs.declared.HeaderReply.{HeaderReply}
-use Rattle.format.specs.declared.HeaderReply.TheVariants as header
-use Rattle.format.specs.declared.Reply.{Reply}
-use Rattle.format.specs.declared.Reply.TheVariants as done
 use Rattle.format.specs.Base.{Out, bind}
 use Rattle.format.specs.Limits.{variants_to_a_block}
 use Rattle.format.specs.Layout.{Layout}
@@ -24,7 +21,7 @@ use Rattle.read_file.proofs.Replies.{checked_row, checked_accepted, checked_refu
 abbrev check_from : ℕ → List ℕ → Out Layout → Checked
 check_from N work m = record { reply = summary m; work = work_after N (refusal_of m) work }
 
-module _ (file work : List ℕ) (r : HeaderReply) (e : Opening file (length work) r) where
+module _ (file work : List ℕ) (r : Result Fields Refusal) (e : Opening file (length work) r) where
   -- the reply, by what was opened
   checks : (m : Out Layout) → open_out variants_to_a_block file (length work) ≡ m
       → check_from (samples_of variants_to_a_block file) work (bind m (λ l left. checked variants_to_a_block l)) ≡ check_call variants_to_a_block file work
@@ -35,10 +32,10 @@ module _ (file work : List ℕ) (r : HeaderReply) (e : Opening file (length work
       ∙ ap (λ (m : Out Layout). bind m (λ l left. checked variants_to_a_block l)) s))
 
   -- 1 to 10
-  pub check_shut : (why : Refusal) → r ≡ header.Refused why → check_left (header.Refused why) work ≡ check_call variants_to_a_block file work
+  pub check_shut : (why : Refusal) → r ≡ Err why → check_left (Err why) work ≡ check_call variants_to_a_block file work
   check_shut why q = let s = shut file (length work) r why e q in simp s.keeps at (checks _ s.is)
 
-  module _ (f : Fields) (q : r ≡ header.Accepted f) where
+  module _ (f : Fields) (q : r ≡ Ok f) where
     o : Open file (length work) f
     o = ready file (length work) r f e q
 
@@ -48,20 +45,20 @@ module _ (file work : List ℕ) (r : HeaderReply) (e : Opening file (length work
     calls : check_from f.samples work (checked variants_to_a_block o.layout) ≡ check_call variants_to_a_block file work
     calls = rw (samples_are file (length work) f o, ← open_samples file (length work) f o) at (checks _ (open_is file (length work) f o))
 
-    module _ (got : Reply) (work₁ : List ℕ) (d : RecordsChecked file file f work got work₁) where
+    module _ (got : Result ⊤ Refusal) (work₁ : List ℕ) (d : RecordsChecked file file f work got work₁) where
       -- what was checked is the layout that was opened
       same_layout : read_all variants_to_a_block o.layout ≡ read_all variants_to_a_block d.has.layout
       same_layout = ap (read_all variants_to_a_block) (sym (one_layout o.stored d.has))
 
       -- 12 to 18 and 23 to 25
-      pub check_refused : (why : Refusal) → got ≡ done.Refused why → check_left (header.Refused why) work₁ ≡ check_call variants_to_a_block file work
+      pub check_refused : (why : Refusal) → got ≡ Err why → check_left (Err why) work₁ ≡ check_call variants_to_a_block file work
       check_refused why s =
           let x = checked_refused d o.bytes why s in
           rw (checked_row d) (rw (same_layout ∙ x.is, x.clears) at calls)
 
-      pub check_accepted : got ≡ done.Accepted → check_left (header.Accepted f) work₁ ≡ check_call variants_to_a_block file work
+      pub check_accepted : got ≡ Ok tt → check_left (Ok f) work₁ ≡ check_call variants_to_a_block file work
       check_accepted s =
-          ap (λ (z : Fields). check_left (header.Accepted z) work₁) o.fields_are
+          ap (λ (z : Fields). check_left (Ok z) work₁) o.fields_are
           ∙ rw (checked_row d) (rw (same_layout ∙ (checked_accepted d s).is) at calls)
 
 pub ruleset check_laws = (check_shut, has_row, check_refused, check_accepted)

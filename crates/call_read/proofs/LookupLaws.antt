@@ -1,5 +1,6 @@
 -- What a lookup replies and leaves, by what the opening and the record were found to be.
 -- Assumes nothing.
+use Rattle.std.specs.Prelude.{Result, Ok, Err, ⊤}
 use mathlib.Core.Path.{◌≡◌, refl, sym, ap, ◌∙◌}
 use Prim.Native.Nat.{ℕ, ◌≤◌, ◌<◌}
 use mathlib.Core.List.{List, ◌++◌}
@@ -11,11 +12,6 @@ use borrow.Author.Tests.{lt-ltb, le-ltb}
 use Rattle.format.specs.declared.FileVariant.{FileVariant}
 use Rattle.format.specs.declared.Fields.{Fields}
 use Rattle.format.specs.declared.Refusal.{Refusal}
-use Rattle.format.specs.declared.HeaderReply.{HeaderReply}
-use Rattle.format.specs.declared.HeaderReply.TheVariants as header
-use Rattle.format.specs.declared.Reply.{Reply}
-use Rattle.format.specs.declared.Reply.TheVariants as done
-use Rattle.format.specs.declared.LookupReply.TheVariants.{Category, Refused}
 use Rattle.format.specs.Base.{Out, refusal, bind, need_of, named}
 use Rattle.format.specs.Limits.{variants_to_a_block}
 use Rattle.format.specs.Layout.{Layout}
@@ -38,7 +34,7 @@ lookup_from N sample work m = record {
 abbrev sample_read : FileVariant → ℕ → Layout → Out (List ℕ)
 sample_read v sample l = need_sample v sample l (read_variant variants_to_a_block l v)
 
-module _ (file : List ℕ) (v : FileVariant) (sample : ℕ) (work : List ℕ) (r : HeaderReply) (e : OpeningAt file v (length work) r) where
+module _ (file : List ℕ) (v : FileVariant) (sample : ℕ) (work : List ℕ) (r : Result Fields Refusal) (e : OpeningAt file v (length work) r) where
   -- the reply, by what was opened
   looks : (m : Out Layout) → open_at_out variants_to_a_block file v (length work) ≡ m
       → lookup_from (samples_of variants_to_a_block file) sample work (bind m (λ l left. sample_read v sample l))
@@ -50,10 +46,10 @@ module _ (file : List ℕ) (v : FileVariant) (sample : ℕ) (work : List ℕ) (r
       ∙ ap (λ (m : Out Layout). bind m (λ l left. sample_read v sample l)) s))
 
   -- 1 to 11
-  pub lookup_shut : (why : Refusal) → r ≡ header.Refused why → lookup_left (Refused why) work ≡ lookup_call variants_to_a_block file v sample work
+  pub lookup_shut : (why : Refusal) → r ≡ Err why → lookup_left (Err why) work ≡ lookup_call variants_to_a_block file v sample work
   lookup_shut why q = let s = shut_at file v (length work) r why e q in simp s.keeps at (looks _ s.is)
 
-  module _ (f : Fields) (q : r ≡ header.Accepted f) where
+  module _ (f : Fields) (q : r ≡ Ok f) where
     o : OpenAt file v (length work) f
     o = ready_at file v (length work) r f e q
 
@@ -78,22 +74,22 @@ module _ (file : List ℕ) (v : FileVariant) (sample : ℕ) (work : List ℕ) (r
 
     -- 11, of a sample
     pub no_sample : (why : Refusal) → why ≡ named v (refusal 11 0) → f.samples ≤ sample
-        → lookup_left (Refused why) work ≡ lookup_call variants_to_a_block file v sample work
+        → lookup_left (Err why) work ≡ lookup_call variants_to_a_block file v sample work
     no_sample why z t = rw z (rw (le-ltb sample f.samples t) at calls)
 
-    module _ (t : sample < f.samples) (got : Reply) (work₁ : List ℕ) (d : VariantRead file file f v work got work₁) where
+    module _ (t : sample < f.samples) (got : Result ⊤ Refusal) (work₁ : List ℕ) (d : VariantRead file file f v work got work₁) where
       reads : lookup_from f.samples sample work (read_variant variants_to_a_block l v) ≡ lookup_call variants_to_a_block file v sample work
       reads = rw (lt-ltb sample f.samples t) at calls
 
       -- 12 to 18 and 23 to 25
-      pub lookup_refused : (why : Refusal) → got ≡ done.Refused why → lookup_left (Refused why) work₁ ≡ lookup_call variants_to_a_block file v sample work
+      pub lookup_refused : (why : Refusal) → got ≡ Err why → lookup_left (Err why) work₁ ≡ lookup_call variants_to_a_block file v sample work
       lookup_refused why s =
           let x = refused_as file v (length work) f o work got work₁ d why s in
           rw (refused_row d why s) (rw (x.is, x.clears) at reads)
 
-      pub lookup_accepted : (work₂ : List ℕ) → got ≡ done.Accepted → length work₁ ≡ length work
+      pub lookup_accepted : (work₂ : List ℕ) → got ≡ Ok tt → length work₁ ≡ length work
           → work₂ ≡ replicate f.samples 0 ++ drop f.samples work₁
-          → lookup_left (Category (get_or work₁ sample 0)) work₂ ≡ lookup_call variants_to_a_block file v sample work
+          → lookup_left (Ok (get_or work₁ sample 0)) work₂ ≡ lookup_call variants_to_a_block file v sample work
       lookup_accepted work₂ s same b =
           let x = filled_as file v (length work) f o work got work₁ d s same (omega arith) in
           let at : get_or x.value sample 0 ≡ get_or work₁ sample 0 = rw (← x.front) (rw get_or-take) in

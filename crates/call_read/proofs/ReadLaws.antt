@@ -1,6 +1,7 @@
 -- What a read replies and leaves, by what its opening found and its record was found to be. What is read of the variant's body may be its categories or its
 -- phases.
 -- Assumes nothing.
+use Rattle.std.specs.Prelude.{Result, Ok, Err, ⊤}
 use mathlib.Core.Path.{◌≡◌, refl, sym, ap, ◌∙◌, subst}
 use Prim.Native.Nat.{ℕ, min, ◌≤◌}
 use mathlib.Core.Bool.{◌&&◌}
@@ -10,10 +11,6 @@ use native.Mathlib.Omega.{arith}
 use Rattle.format.specs.declared.FileVariant.{FileVariant}
 use Rattle.format.specs.declared.Fields.{Fields}
 use Rattle.format.specs.declared.Refusal.{Refusal}
-use Rattle.format.specs.declared.HeaderReply.{HeaderReply}
-use Rattle.format.specs.declared.HeaderReply.TheVariants as header
-use Rattle.format.specs.declared.Reply.{Reply}
-use Rattle.format.specs.declared.Reply.TheVariants.{Refused}
 use Rattle.format.specs.Base.{Out, ok, refused, bind}
 use Rattle.format.specs.Limits.{variants_to_a_block}
 use Rattle.format.specs.Body.{Body, body_categories}
@@ -38,7 +35,7 @@ read_from N output work m = record {
 }
 
 module _ (file : List ℕ) (v : FileVariant) (output work : List ℕ) (lent : ℕ) (both : lent ≡ min (length output) (length work))
-    (r : HeaderReply) (e : OpeningAt file v lent r) where
+    (r : Result Fields Refusal) (e : OpeningAt file v lent r) where
   module _ (what : ℕ → List ℕ → Body → List ℕ) where
     -- the reply, by what was opened: its opening has room in both buffers
     opened_as : (m : Out Layout) → open_at_out K file v lent ≡ m
@@ -50,10 +47,10 @@ module _ (file : List ℕ) (v : FileVariant) (output work : List ℕ) (lent : �
         ∙ ap (λ (m : Out Layout). bind m (λ l left. variant_as what K l v)) s))
 
     -- 1 to 11
-    pub shut_as : (why : Refusal) → r ≡ header.Refused why → read_left (Refused why) output work ≡ read_as what K file v output work
+    pub shut_as : (why : Refusal) → r ≡ Err why → read_left (Err why) output work ≡ read_as what K file v output work
     shut_as why q = let s = shut_at file v lent r why e q in simp s.keeps at (opened_as _ s.is)
 
-  module _ (f : Fields) (q : r ≡ header.Accepted f) where
+  module _ (f : Fields) (q : r ≡ Ok f) where
     pub opened : OpenAt file v lent f
     opened = ready_at file v lent r f e q
 
@@ -79,13 +76,13 @@ module _ (file : List ℕ) (v : FileVariant) (output work : List ℕ) (lent : �
 -- ---- categories
 
 module _ (file : List ℕ) (v : FileVariant) (output work : List ℕ) (lent : ℕ) (both : lent ≡ min (length output) (length work))
-    (r : HeaderReply) (e : OpeningAt file v lent r) where
-  pub read_shut : (why : Refusal) → r ≡ header.Refused why → read_left (Refused why) output work ≡ read_call K file v output work
+    (r : Result Fields Refusal) (e : OpeningAt file v lent r) where
+  pub read_shut : (why : Refusal) → r ≡ Err why → read_left (Err why) output work ≡ read_call K file v output work
   unfolding read_call
   read_shut why q = shut_as file v output work lent both r e body_categories why q
 
   -- 12 to 18 and 23 to 25, or accepted
-  pub read_given : (f : Fields) → r ≡ header.Accepted f → (got : Reply) (output₁ work₁ : List ℕ)
+  pub read_given : (f : Fields) → r ≡ Ok f → (got : Result ⊤ Refusal) (output₁ work₁ : List ℕ)
       → VariantGiven file file f v output work got output₁ work₁ → read_left got output₁ work₁ ≡ read_call K file v output work
   unfolding read_call
   read_given f q got output₁ work₁ d =

@@ -1,5 +1,6 @@
 -- What a row that was read over an opening tells.
 -- Assumes nothing.
+use Rattle.std.specs.Prelude.{Result, Ok, Err, ⊤}
 use mathlib.Core.Path.{◌≡◌, subst}
 use Prim.Native.Nat.{ℕ, ◌≤◌}
 use mathlib.Core.List.{List}
@@ -8,8 +9,6 @@ use native.Mathlib.Omega.{arith}
 use Rattle.format.specs.declared.FileVariant.{FileVariant}
 use Rattle.format.specs.declared.Fields.{Fields}
 use Rattle.format.specs.declared.Refusal.{Refusal}
-use Rattle.format.specs.declared.Reply.{Reply}
-use Rattle.format.specs.declared.Reply.TheVariants.{Accepted, Refused}
 use Rattle.format.specs.Limits.{variants_to_a_block}
 use Rattle.format.specs.Layout.{Layout}
 use Rattle.format.specs.File.{read_variant}
@@ -26,15 +25,15 @@ module _ (file : List ℕ) (v : FileVariant) (lent : ℕ) (f : Fields) (o : Open
   }
 
   -- what was read is read of the layout that was opened
-  module _ (work : List ℕ) (got : Reply) (work₁ : List ℕ) (d : VariantRead file file f v work got work₁) where
+  module _ (work : List ℕ) (got : Result ⊤ Refusal) (work₁ : List ℕ) (d : VariantRead file file f v work got work₁) where
     same_layout : d.has.has.layout ≡ o.has.layout
     same_layout = one_layout o.has.stored d.has.has
 
-    pub refused_as : (why : Refusal) → got ≡ Refused why → Clears (read_variant variants_to_a_block o.has.layout v) why
+    pub refused_as : (why : Refusal) → got ≡ Err why → Clears (read_variant variants_to_a_block o.has.layout v) why
     refused_as why s =
         subst (λ (l : Layout). Clears (read_variant variants_to_a_block l v) why) same_layout (read_refused d o.has.bytes why s)
 
-    pub filled_as : got ≡ Accepted → length work₁ ≡ length work → lent ≤ length work
+    pub filled_as : got ≡ Ok tt → length work₁ ≡ length work → lent ≤ length work
         → RowRead f.samples work work₁ (read_variant variants_to_a_block o.has.layout v)
     filled_as s same room =
         subst (λ (l : Layout). RowRead f.samples work work₁ (read_variant variants_to_a_block l v)) same_layout

@@ -1,5 +1,6 @@
 -- What a view replies, by what the opening found.
 -- Assumes nothing.
+use Rattle.std.specs.Prelude.{Result, Ok, Err}
 use mathlib.Core.Path.{◌≡◌, refl, sym, ap, ap₂, ◌∙◌}
 use Prim.Native.Nat.{ℕ, ◌+◌, ◌-◌}
 use native.Mathlib.Nat.{zero-add}
@@ -10,8 +11,6 @@ use borrow.Author.Tests.{le-leb}
 use Rattle.format.specs.declared.FileVariant.{FileVariant}
 use Rattle.format.specs.declared.Fields.{Fields}
 use Rattle.format.specs.declared.Refusal.{Refusal}
-use Rattle.format.specs.declared.HeaderReply.{HeaderReply}
-use Rattle.format.specs.declared.HeaderReply.TheVariants.{Accepted, Refused}
 use Rattle.format.specs.Base.{Bytes, Out, ok, refused, bind, need_of}
 use Rattle.format.specs.Limits.{most_samples, variants_to_a_block}
 use Rattle.format.specs.Layout.{Layout, record_start}
@@ -50,7 +49,7 @@ module _ (file : List ℕ) (y : Bytes file) (v : FileVariant) where
       go (refused why) w = refl
       go (ok l left) w = simp (le-leb l.samples most_samples (from_1_to_most most_samples l.samples w.obeys.fixed.samples))
 
-  module _ (r : HeaderReply) (e : OpeningAt file v most_samples r) where
+  module _ (r : Result Fields Refusal) (e : OpeningAt file v most_samples r) where
     -- the reply, by what was opened
     views : (m : Out Layout) → open_at_out variants_to_a_block file v most_samples ≡ m
         → view_from v (bind m (λ l left. ok l [])) ≡ view_call variants_to_a_block file v
@@ -62,13 +61,13 @@ module _ (file : List ℕ) (y : Bytes file) (v : FileVariant) where
         ∙ ap (λ (m : Out Layout). bind m (λ l left. ok l [])) s))
 
     -- 1 to 9 and 11
-    pub view_shut : (lies : ℕ × ℕ) (why : Refusal) → r ≡ Refused why
+    pub view_shut : (lies : ℕ × ℕ) (why : Refusal) → r ≡ Err why
         → view_left why.number why.place why.variant.0 [] lies ≡ part_of_file lies (view_call variants_to_a_block file v)
     view_shut lies why q =
         ap (λ (n : ℕ). view_left why.number why.place why.variant.0 [] (lies.0, n)) (sym (zero-add lies.1))
         ∙ ap (part_of_file lies) (views _ (shut_at file v most_samples r why e q).is)
 
-    module _ (f : Fields) (q : r ≡ Accepted f) where
+    module _ (f : Fields) (q : r ≡ Ok f) where
       o : OpenAt file v most_samples f
       o = ready_at file v most_samples r f e q
 

@@ -1,15 +1,14 @@
 -- The ways out of the steps whose phases are read too: the row is left as a step of the categories leaves it, and the phases are those of the body.
 -- Assumes nothing.
+use Rattle.std.specs.Prelude.{Result, Ok, Err, is_ok, ⊤}
 use mathlib.Core.Path.{◌≡◌, refl, sym, ap, ap₂, ◌∙◌, subst}
 use Prim.Native.Nat.{ℕ, min, ◌≤◌}
 use mathlib.Core.Bool.{Bool, true, false}
 use mathlib.Core.List.{List, [], ◌++◌}
 use lib.ListN.{length, take, drop}
-use lib.Dec.{eqb}
+use Rattle.format.proofs.Rules.{never_both}
 use native.Mathlib.Omega.{arith}
 use Rattle.format.specs.declared.Refusal.{Refusal}
-use Rattle.format.specs.declared.Reply.{Reply}
-use Rattle.format.specs.declared.Reply.TheVariants.{Accepted, Refused}
 use Rattle.format.specs.Base.{pick, Out, ok, refused, naming, map_out}
 use Rattle.format.specs.Body.{type_leans, Body, read_body, body_categories, Reading, body_reading}
 use Rattle.format.specs.Reply.{named_reply}
@@ -21,8 +20,6 @@ use Rattle.read_record.specs.Recorded.{record_left, record_replied, recorded, ph
 use Rattle.read_check.specs.Straight.{own_as, straight_replied, straight, straight_phased_replied, straight_phased}
 use Rattle.call_rows.specs.declared.Rows.{Rows}
 use Rattle.call_rows.specs.declared.RowStep.{RowStep}
-use Rattle.call_rows.specs.declared.NextRecord.{NextRecord}
-use Rattle.call_rows.specs.declared.NextRecord.TheVariants as next_as
 use Rattle.call_rows.specs.Calls.{next_record, found, past, answered, kept, row_kept, leaning_checked, RowReady}
 use Rattle.call_rows.specs.Phased.{with_phases, phased_row_left, phases_filled, body_at, phases_at, phased_over_nothing, phased_over_anchor}
 use Rattle.call_rows.specs.Phased.{phased_stepped, next_phased_row_in, next_phased_row_call}
@@ -32,7 +29,7 @@ use Rattle.call_rows.proofs.RecordLaws.{all_known}
 
 -- ---- a record whose phases were read too
 
-module _ (n type : ℕ) (l : List ℕ) (start : ℕ) (row phases : List ℕ) (got : Reply) (row₁ phases₁ : List ℕ)
+module _ (n type : ℕ) (l : List ℕ) (start : ℕ) (row phases : List ℕ) (got : Result ⊤ Refusal) (row₁ phases₁ : List ℕ)
     (told : phased_left got row₁ phases₁ ≡ phased_recorded n type l start row phases) where
   abbrev body_read : List ℕ → Out Body
   body_read anchor = read_body (length l) n anchor type (drop start l)
@@ -57,7 +54,7 @@ module _ (n type : ℕ) (l : List ℕ) (start : ℕ) (row phases : List ℕ) (go
 -- ---- one that leans on none, read straight
 
 module _ (rows : Rows) (held : List ℕ) (p : Place) (output phases work : List ℕ) (stands : type_leans p.record_type ≡ false)
-    (room : rows.fields.samples ≤ length output) (read got : Reply) (output₁ phases₁ : List ℕ) (same : length output₁ ≡ length output)
+    (room : rows.fields.samples ≤ length output) (read got : Result ⊤ Refusal) (output₁ phases₁ : List ℕ) (same : length output₁ ≡ length output)
     (told : phased_left read output₁ phases₁ ≡ straight_phased rows.fields.samples p.record_type (take p.end held) p.start output phases)
     (v : got ≡ named_reply rows.variant read) (step : RowStep) (work₁ : List ℕ) (k : kept step work₁ ≡ row_kept rows p.end got output₁ work) where
   abbrev N : ℕ
@@ -107,12 +104,12 @@ module _ (rows : Rows) (held : List ℕ) (p : Place) (output phases work : List 
 -- ---- one that leans
 
 module _ (rows : Rows) (held : List ℕ) (p : Place) (output phases work : List ℕ) (ready : RowReady rows held p work) (next : Rows)
-    (n : next ≡ past rows p.end rows.refusal) (got : Reply) (told : got ≡ leaning_checked rows held p work) where
+    (n : next ≡ past rows p.end rows.anchor) (got : Result ⊤ Refusal) (told : got ≡ leaning_checked rows held p work) where
   abbrev samples : ℕ
   samples = rows.fields.samples
 
   abbrev accepted_anchor : Bool
-  accepted_anchor = eqb rows.refusal.number 0
+  accepted_anchor = is_ok rows.anchor
 
   abbrev body : Out Body
   body = body_at rows held p work
@@ -120,8 +117,8 @@ module _ (rows : Rows) (held : List ℕ) (p : Place) (output phases work : List 
   was_checked : got ≡ checked_as rows held p output work ready accepted_anchor (naming rows.variant body)
   was_checked = checked rows held p output work ready next n got told
 
-  pub phased_leaning_refused : (why : Refusal) → got ≡ Refused why
-      → phased_row_left (answered next (Refused why)) output phases work ≡ phased_over_anchor rows held p output phases work
+  pub phased_leaning_refused : (why : Refusal) → got ≡ Err why
+      → phased_row_left (answered next (Err why)) output phases work ≡ phased_over_anchor rows held p output phases work
   phased_leaning_refused why q =
       ap₂ with_phases (leaning_refused rows held p output work ready next n got told why q) (go accepted_anchor body was_checked)
     where
@@ -131,15 +128,15 @@ module _ (rows : Rows) (held : List ℕ) (p : Place) (output phases work : List 
       go true (refused other) e = refl
       go false m e = refl
 
-  pub phased_leaning_accepted : (output₁ output₂ phases₁ : List ℕ) (got₂ : Reply) → got ≡ Accepted
+  pub phased_leaning_accepted : (output₁ output₂ phases₁ : List ℕ) (got₂ : Result ⊤ Refusal) → got ≡ Ok tt
       → output₁ ≡ take rows.fields.samples work ++ drop rows.fields.samples output
       → phased_left got₂ output₂ phases₁ ≡ phased_recorded rows.fields.samples p.record_type (take p.end held) p.start output₁ phases
-      → phased_row_left (answered next Accepted) output₂ phases₁ work ≡ phased_over_anchor rows held p output phases work
+      → phased_row_left (answered next got₂) output₂ phases₁ work ≡ phased_over_anchor rows held p output phases work
   phased_leaning_accepted output₁ output₂ phases₁ got₂ q f d =
       ap₂ with_phases
       (leaning_accepted rows held p output work ready next n got told output₁ output₂ got₂ q f
       (as_recorded samples p.record_type (take p.end held) p.start output₁ phases got₂ output₂ phases₁ d))
-      (go accepted_anchor body was_checked over_anchors)
+      (go accepted_anchor refl body was_checked over_anchors)
     where
       over_anchors : phases₁ ≡ phases_at rows held p phases work
       over_anchors =
@@ -148,11 +145,11 @@ module _ (rows : Rows) (held : List ℕ) (p : Place) (output phases work : List 
           (read_body (length (take p.end held)) samples row p.record_type (drop p.start (take p.end held))))
           (ap (take samples) f ∙ same_row rows held p output work ready)
 
-      go : (b : Bool) (m : Out Body) → got ≡ checked_as rows held p output work ready b (naming rows.variant m)
+      go : (b : Bool) → accepted_anchor ≡ b → (m : Out Body) → got ≡ checked_as rows held p output work ready b (naming rows.variant m)
           → phases₁ ≡ phases_filled samples (take samples work) phases m
           → phases₁ ≡ pick b (phases_filled samples (take samples work) phases m) phases
-      go true m e g = g
-      go false m e g = absurd (let y : ◌≡◌ {A = ℕ} 0 1 = cc in omega arith)
+      go true t m e g = g
+      go false t m e g = never_both (ap is_ok (sym e ∙ q)) t
 
 pub ruleset phased_alone_laws = (phased_alone_left, cut_end, cut_holds, buffer_room)
 
@@ -167,16 +164,16 @@ pub ruleset phased_step_laws = (
 -- ---- where the record is found
 
 module _ (rows : Rows) (index held output phases work : List ℕ) (lent : ℕ) (l : lent ≡ min (length output) (length phases))
-    (r : NextRecord) (told : found r ≡ next_record rows index held lent (length work)) where
+    (r : Result Place Refusal) (told : found r ≡ next_record rows index held lent (length work)) where
   sought : found r ≡ next_record rows index held (min (length output) (length phases)) (length work)
   sought = rw l at told
 
-  pub phased_refused_there : (why : Refusal) → r ≡ next_as.Refused why
-      → phased_row_left (answered rows (Refused why)) output phases work ≡ next_phased_row_in rows index held output phases work
+  pub phased_refused_there : (why : Refusal) → r ≡ Err why
+      → phased_row_left (answered rows (Err why)) output phases work ≡ next_phased_row_in rows index held output phases work
   unfolding next_phased_row_in
   phased_refused_there why q = ap (phased_stepped rows held output phases work) (rw q at sought)
 
-  module _ (p : Place) (q : r ≡ next_as.At p) where
+  module _ (p : Place) (q : r ≡ Ok p) where
     at_place : ok p [] ≡ next_record rows index held (min (length output) (length phases)) (length work)
     at_place = rw q at sought
 

@@ -1,15 +1,16 @@
 -- What a step whose phases are read too leaves: all else as the step of the categories alone leaves it, the phases of the body that was read, and after a
 -- refusal the phases as they were.
 -- Assumes nothing.
+use Rattle.std.specs.Prelude.{Result, Ok, Err, is_ok, ⊤}
 use mathlib.Core.Path.{◌≡◌, refl, sym, ap, ◌∙◌, subst}
 use Prim.Native.Nat.{ℕ, min, ◌≤◌}
 use mathlib.Core.Bool.{Bool, true, false}
 use mathlib.Core.List.{List, [], ◌++◌}
 use lib.ListN.{length, take, drop}
-use lib.Dec.{eqb, leb}
+use lib.Dec.{leb}
 use native.Mathlib.Omega.{arith}
 use borrow.Author.Tests.{leb-true, leb-false, le-leb, lt-leb}
-use Rattle.format.specs.declared.Reply.TheVariants.{Refused}
+use Rattle.format.specs.declared.Refusal.{Refusal}
 use Rattle.format.specs.Base.{pick, Bytes, Out, ok, refused, naming}
 use Rattle.format.specs.Body.{type_leans, Body, body_phases}
 use Rattle.format.specs.Reply.{keeps_work}
@@ -99,15 +100,15 @@ module _ (rows : Rows) (held output phases work : List ℕ) where
         go (refused why) r = (λ e. refl, λ e. apart (sym e))
 
     anchor_both : Both (phased_over_anchor rows held p output phases work)
-    anchor_both = rw (over_copy rows held p output work ready) (go (eqb rows.refusal.number 0) (body_at rows held p work) refl)
+    anchor_both = rw (over_copy rows held p output work ready) (go rows.anchor (body_at rows held p work) refl)
       where
-        go : (b : Bool) (m : Out Body) → body_at rows held p work ≡ m
-            → Both (with_phases (pick b (leaning rows p.end output work (record_replied N copied (naming rows.variant m)))
-            (row_left (answered (past rows p.end rows.refusal) (Refused rows.refusal)) output work))
-            (pick b (phases_filled N (take N work) phases m) phases))
-        go true (ok body rest) r = (λ e. apart e, λ e. record { body = body; rest = rest; is_read = r; are_phases = refl })
-        go true (refused why) r = (λ e. refl, λ e. apart (sym e))
-        go false m r = (λ e. refl, λ e. apart (sym e))
+        go : (a : Result ⊤ Refusal) (m : Out Body) → body_at rows held p work ≡ m
+            → Both (with_phases (pick (is_ok a) (leaning rows p.end output work (record_replied N copied (naming rows.variant m)))
+            (row_left (answered (past rows p.end a) a) output work))
+            (pick (is_ok a) (phases_filled N (take N work) phases m) phases))
+        go (Ok tt) (ok body rest) r = (λ e. apart e, λ e. record { body = body; rest = rest; is_read = r; are_phases = refl })
+        go (Ok tt) (refused why) r = (λ e. refl, λ e. apart (sym e))
+        go (Err why) m r = (λ e. refl, λ e. apart (sym e))
 
     placed_both : (left : List ℕ) → Both (phased_stepped rows held output phases work (ok p left))
     placed_both left = by_test Both (type_leans p.record_type) (λ l. anchor_both) (λ l. alone_both)

@@ -1,5 +1,6 @@
 -- The ways out of the look for the next record, and what is known where it is found.
 -- Assumes nothing.
+use Rattle.std.specs.Prelude.{Result, Ok, Err, ⊤}
 use mathlib.Core.Path.{◌≡◌, refl, sym, ap, ◌∙◌, subst}
 use Prim.Native.Nat.{ℕ, ◌+◌, ◌-◌, ◌≤◌, ◌<◌}
 use mathlib.Core.Bool.{Bool, true, false, not, ◌&&◌, ◌||◌}
@@ -9,8 +10,6 @@ use lib.Dec.{eqb, leb}
 use native.Mathlib.Omega.{arith}
 use borrow.Author.Tests.{leb-true, le-leb, lt-leb, not-true, not-false}
 use Rattle.format.specs.declared.BlockVariant.{BlockVariant}
-use Rattle.format.specs.declared.Reply.{Reply}
-use Rattle.format.specs.declared.Reply.TheVariants.{Accepted, Refused}
 use Rattle.format.specs.declared.Refusal.{Refusal}
 use Rattle.format.specs.Base.{pick, Out, ok, refused, bind, refuse_of}
 use Rattle.format.specs.Limits.{variants_to_a_block}
@@ -18,7 +17,7 @@ use Rattle.format.specs.Body.{type_leans}
 use Rattle.format.specs.Variant.{in_block, no_variant}
 use Rattle.format.specs.Layout.{unblocked, fixed_type, type_allowed}
 use Rattle.format.specs.Header.{type_place}
-use Rattle.format.specs.Reply.{plain_answer}
+use Rattle.format.specs.Reply.{answer}
 use Rattle.format.proofs.Rules.{Holds, by_bind, never_both, both, by_need_of}
 use Rattle.head_index.specs.VariantsAt.{type_at}
 use Rattle.head_blocks.specs.Parts.{fixed}
@@ -28,8 +27,6 @@ use Rattle.head_places.specs.declared.Place.{Place}
 use Rattle.format.proofs.AnchorLaws.{allowed}
 use Rattle.call_rows.specs.declared.Rows.{Rows}
 use Rattle.call_rows.specs.declared.RowStep.{RowStep}
-use Rattle.call_rows.specs.declared.NextRecord.{NextRecord}
-use Rattle.call_rows.specs.declared.NextRecord.TheVariants as next_as
 use Rattle.call_rows.specs.Calls.{state_checked, record_of, anchor_told, type_follows, record_checked, found, next_record, answered, row_left}
 use Rattle.call_rows.specs.Calls.{over_nothing, over_anchor, stepped, next_row_in, next_row_call, Standing, RowReady}
 use Rattle.call_rows.proofs.StateLaws.{refused_as, Passed, all_passed, passed}
@@ -120,15 +117,15 @@ module _ (rows : Rows) (index held : List ℕ) (output work : ℕ) where
   unfolding next_record
   next_is e = ap (λ (m : Out (Unit {0})). bind m (λ checked left. record_checked rows index held)) e
 
-  module _ (r : Reply) (told : plain_answer r ≡ state_checked rows output work) where
-    pub state_refused : (why : Refusal) → r ≡ Refused why → refused why ≡ next_record rows index held output work
+  module _ (r : Result ⊤ Refusal) (told : answer r ≡ state_checked rows output work) where
+    pub state_refused : (why : Refusal) → r ≡ Err why → refused why ≡ next_record rows index held output work
     state_refused why q = not_next why (rw q at told)
 
-    module _ (q : r ≡ Accepted) where
+    module _ (q : r ≡ Ok tt) where
       pub standing : Standing rows
       standing = (passed rows output work r told q).standing
 
-      pub looked_for : (x : NextRecord) → found x ≡ record_checked rows index held → found x ≡ next_record rows index held output work
+      pub looked_for : (x : Result Place Refusal) → found x ≡ record_checked rows index held → found x ≡ next_record rows index held output work
       looked_for x e = e ∙ next_is (rw q at told)
 
 pub ruleset next_record_laws = (state_refused, standing, looked_for)
@@ -146,7 +143,7 @@ all_known rows index held lent work =
     by_need_of _ _ (leb (record_of rows index).end (length held)) 9 (length held) _ (λ e.
     let b : BlockVariant = in_block K rows.variant in
     let type : ℕ = (record_of rows index).record_type in
-    let known = allowed b type (both (type_allowed b type) (not (type_leans type) || anchor_told rows.refusal) t).0 in (
+    let known = allowed b type (both (type_allowed b type) (not (type_leans type) || anchor_told rows.anchor) t).0 in (
       record {
         few_variants = omega (arith, q.standing.below, q.standing.few_variants);
         few_samples = q.standing.few_samples;
@@ -162,17 +159,17 @@ module _ (rows : Rows) (index held output work : List ℕ) where
   abbrev looked : Out Place
   looked = next_record rows index held (length output) (length work)
 
-  pub not_found : (why : Refusal) → refused why ≡ looked → row_left (answered rows (Refused why)) output work ≡ next_row_in rows index held output work
+  pub not_found : (why : Refusal) → refused why ≡ looked → row_left (answered rows (Err why)) output work ≡ next_row_in rows index held output work
   unfolding next_row_in
   not_found why e = ap (stepped rows held output work) e
 
   -- what the code was told
-  module _ (r : NextRecord) (told : found r ≡ looked) where
-    pub refused_there : (why : Refusal) → r ≡ next_as.Refused why
-        → row_left (answered rows (Refused why)) output work ≡ next_row_in rows index held output work
+  module _ (r : Result Place Refusal) (told : found r ≡ looked) where
+    pub refused_there : (why : Refusal) → r ≡ Err why
+        → row_left (answered rows (Err why)) output work ≡ next_row_in rows index held output work
     refused_there why q = not_found why (rw q at told)
 
-    module _ (p : Place) (q : r ≡ next_as.At p) where
+    module _ (p : Place) (q : r ≡ Ok p) where
       at_place : ok p [] ≡ looked
       at_place = rw q at told
 

@@ -1,15 +1,15 @@
 -- Each refusal of the two calls is a number of document 01's table that belongs to that call, also where no start gave the state; what a refused step names
 -- and leaves.
 -- Assumes nothing.
+use Rattle.std.specs.Prelude.{Result, Ok, Err, is_ok, ⊤}
 use mathlib.Core.Path.{◌≡◌, refl, ap}
 use Prim.Native.Nat.{ℕ}
 use mathlib.Core.Bool.{true, false, not, ◌&&◌, ◌||◌}
 use mathlib.Core.List.{List, [], ◌∷◌, ◌++◌}
 use lib.ListN.{length, take, drop}
-use lib.Dec.{eqb, ltb, leb}
+use lib.Dec.{ltb, leb}
 use native.Mathlib.Omega.{arith}
 use Rattle.format.specs.declared.Refusal.{Refusal}
-use Rattle.format.specs.declared.Reply.TheVariants.{Accepted, Refused}
 use Rattle.format.specs.Base.{pick, Bytes, Out, ok, refused, refusal, named}
 use Rattle.format.specs.Classes.{header_numbers, record_numbers, among}
 use Rattle.format.specs.Limits.{most_samples, most_variants, variants_to_a_block}
@@ -66,8 +66,8 @@ pub record Kept (rows : Rows) (output work : List ℕ) (left : Left) : Type 0 wh
 
 -- a refusal of what a record leaves is one of a record's
 abbrev RecordNumbered : RecordLeft → Type 0
-RecordNumbered (record_left Accepted row) = Unit {0}
-RecordNumbered (record_left (Refused why) row) = RecordNumber why.number
+RecordNumbered (record_left (Ok tt) row) = Unit {0}
+RecordNumbered (record_left (Err why) row) = RecordNumber why.number
 
 module _ (rows : Rows) (held output work : List ℕ) (y : Bytes held) where
   abbrev Keeps : Left → Type 0
@@ -75,7 +75,7 @@ module _ (rows : Rows) (held output work : List ℕ) (y : Bytes held) where
 
   -- refused for a record, with whatever state and work area
   for_record : (why : Refusal) (later : Rows) (work₁ : List ℕ) → RecordNumber why.number
-      → Kept rows output work (row_left (answered later (Refused why)) output work₁)
+      → Kept rows output work (row_left (answered later (Err why)) output work₁)
   for_record why later work₁ c = record {
     numbered = class_holds (among next_row_numbers) record_numbers why.number refl c;
     names = record {
@@ -88,20 +88,20 @@ module _ (rows : Rows) (held output work : List ℕ) (y : Bytes held) where
   }
 
   alone_keeps : (end : ℕ) (x : RecordLeft) → RecordNumbered x → Keeps (alone rows end output x)
-  alone_keeps end (record_left Accepted row) k = λ e. apart e
-  alone_keeps end (record_left (Refused why) row) k = λ e. for_record why (past rows end why) row k
+  alone_keeps end (record_left (Ok tt) row) k = λ e. apart e
+  alone_keeps end (record_left (Err why) row) k = λ e. for_record why (past rows end (Err why)) row k
 
   leaning_keeps : (end : ℕ) (x : RecordLeft) → RecordNumbered x → Keeps (leaning rows end output work x)
-  leaning_keeps end (record_left Accepted row) k = λ e. apart e
-  leaning_keeps end (record_left (Refused why) row) k = λ e. for_record why (past rows end rows.refusal) work k
+  leaning_keeps end (record_left (Ok tt) row) k = λ e. apart e
+  leaning_keeps end (record_left (Err why) row) k = λ e. for_record why (past rows end rows.anchor) work k
 
   module _ (p : Place) (t : type_follows rows p.record_type ≡ true) where
     abbrev type : ℕ
     type = p.record_type
 
-    follows : (type_allowed (in_block variants_to_a_block rows.variant) type ≡ true) × (not (type_leans type) || anchor_told rows.refusal ≡ true)
+    follows : (type_allowed (in_block variants_to_a_block rows.variant) type ≡ true) × (not (type_leans type) || anchor_told rows.anchor ≡ true)
     unfolding type_follows
-    follows = both (type_allowed (in_block variants_to_a_block rows.variant) type) (not (type_leans type) || anchor_told rows.refusal) t
+    follows = both (type_allowed (in_block variants_to_a_block rows.variant) type) (not (type_leans type) || anchor_told rows.anchor) t
 
     -- the record at its place, over any row
     read_numbers : (row : List ℕ) → RecordNumbered (read_at rows held p row)
@@ -119,15 +119,14 @@ module _ (rows : Rows) (held output work : List ℕ) (y : Bytes held) where
         go (refused why) r = r
 
     -- its anchor was refused as a record is
-    anchor_numbers : type_leans type ≡ true → eqb rows.refusal.number 0 ≡ false → RecordNumber rows.refusal.number
+    anchored_keeps : (anchor : Result ⊤ Refusal) → anchor_told anchor ≡ true → (left : Left) → Keeps left
+        → Keeps (pick (is_ok anchor) left (row_left (answered (past rows p.end anchor) anchor) output work))
     unfolding anchor_told
-    anchor_numbers l z = rw (l, z) at follows.1
+    anchored_keeps (Ok tt) t left k = k
+    anchored_keeps (Err why) t left k = λ e. for_record why (past rows p.end (Err why)) work t
 
     over_anchor_keeps : type_leans type ≡ true → Keeps (over_anchor rows held p output work)
-    over_anchor_keeps l =
-        by_test Keeps (eqb rows.refusal.number 0)
-        (λ z. leaning_keeps p.end (read_at rows held p _) (read_numbers _))
-        (λ z e. for_record rows.refusal (past rows p.end rows.refusal) work (anchor_numbers l z))
+    over_anchor_keeps l = anchored_keeps rows.anchor (rw l at follows.1) _ (leaning_keeps p.end (read_at rows held p _) (read_numbers _))
 
     placed_keeps : Keeps (pick (type_leans type) (over_anchor rows held p output work) (over_nothing rows held p output work))
     placed_keeps = by_test Keeps (type_leans type) over_anchor_keeps (λ l. alone_keeps p.end (read_at rows held p work) (read_numbers work))

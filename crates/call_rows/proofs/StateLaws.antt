@@ -1,23 +1,22 @@
 -- The ways out of the check of a state, what is known where it is accepted, and whether it tells of an anchor.
 -- Assumes nothing.
+use Rattle.std.specs.Prelude.{Result, Ok, Err, ⊤}
 use mathlib.Core.Path.{◌≡◌, refl, sym, ap, ◌∙◌, subst}
 use Prim.Native.Nat.{ℕ, zero, suc, ◌+◌, ◌-◌, ◌≤◌, ◌<◌}
 use mathlib.Core.Bool.{Bool, true, false, not, ◌&&◌, ◌||◌}
 use mathlib.Core.List.{List, []}
 use lib.Dec.{leb, ltb}
 use native.Mathlib.Omega.{arith}
-use borrow.Author.Tests.{leb-true, ltb-true, le-leb, lt-leb, le-ltb, lt-ltb, eq-eqb, ne_eqb, not-true, not-false}
+use borrow.Author.Tests.{leb-true, ltb-true, le-leb, lt-leb, le-ltb, lt-ltb, not-true, not-false}
 use Rattle.format.specs.declared.BlockVariant.{BlockVariant}
 use Rattle.format.specs.declared.Refusal.{Refusal}
-use Rattle.format.specs.declared.Reply.{Reply}
-use Rattle.format.specs.declared.Reply.TheVariants.{Accepted}
 use Rattle.format.specs.Base.{Out, ok, refuse, refused, refuse_of}
 use Rattle.format.specs.Classes.{record_numbers, among}
 use Rattle.format.specs.Limits.{most_samples, most_variants, variants_to_a_block}
 use Rattle.format.specs.Body.{type_leans}
 use Rattle.format.specs.Variant.{in_block, no_variant}
 use Rattle.format.specs.Layout.{from_1_to, type_allowed}
-use Rattle.format.specs.Reply.{plain_answer}
+use Rattle.format.specs.Reply.{answer}
 use Rattle.format.proofs.Rules.{Holds, by_need, both, by_need_of, never_both}
 use Rattle.format.proofs.Refuses.{class_holds, every}
 use Rattle.format.proofs.OffsetsLaws.{from_1_to_most}
@@ -94,7 +93,7 @@ module _ (rows : Rows) (output work : ℕ) where
         work_holds = leb-true rows.fields.samples work both_hold.1;
       }))))
 
-  pub passed : (r : Reply) → plain_answer r ≡ state_checked rows output work → r ≡ Accepted → Passed rows output work
+  pub passed : (r : Result ⊤ Refusal) → answer r ≡ state_checked rows output work → r ≡ Ok tt → Passed rows output work
   passed r told q = subst (Holds (λ (u : Unit {0}) (left : List ℕ). Passed rows output work)) (sym (rw q at told)) all_passed
 
 -- ---- `anchor_told`
@@ -124,39 +123,39 @@ no_record test t number f = go (among record_numbers number) refl
     go true e = never_both (class_holds test record_numbers number t e) f
     go false e = refl
 
-module _ (why : Refusal) where
+pub told_accepted : (anchor : Result ⊤ Refusal) → anchor ≡ Ok tt → true ≡ anchor_told anchor
+unfolding anchor_told
+told_accepted anchor e = rw e refl
+
+module _ (anchor : Result ⊤ Refusal) (why : Refusal) (is : anchor ≡ Err why) where
   abbrev number : ℕ
   number = why.number
 
-  told_as : {b : Bool} → (number ≡ 0 → ⊥) → among record_numbers number ≡ b → b ≡ anchor_told why
+  told_as : {b : Bool} → among record_numbers number ≡ b → b ≡ anchor_told anchor
   unfolding anchor_told
-  told_as z e = rw (ne_eqb number 0 z, e)
+  told_as e = rw (is, e) refl
 
-  pub told_none : number ≡ 0 → true ≡ anchor_told why
-  unfolding anchor_told
-  told_none z = rw (eq-eqb number 0 z)
-
-  pub told_12_to_18 : 12 ≤ number → number < 19 → true ≡ anchor_told why
+  pub told_12_to_18 : 12 ≤ number → number < 19 → true ≡ anchor_told anchor
   told_12_to_18 l h =
       let e : 12 + (number - 12) ≡ number = omega arith in
-      told_as (λ z. omega arith) (ap (among record_numbers) (sym e) ∙ from_12 (number - 12) (omega arith))
+      told_as (ap (among record_numbers) (sym e) ∙ from_12 (number - 12) (omega arith))
 
-  pub told_23_to_25 : 23 ≤ number → number < 26 → true ≡ anchor_told why
+  pub told_23_to_25 : 23 ≤ number → number < 26 → true ≡ anchor_told anchor
   told_23_to_25 l h =
       let e : 23 + (number - 23) ≡ number = omega arith in
-      told_as (λ z. omega arith) (ap (among record_numbers) (sym e) ∙ from_23 (number - 23) (omega arith))
+      told_as (ap (among record_numbers) (sym e) ∙ from_23 (number - 23) (omega arith))
 
-  pub told_below : (number ≡ 0 → ⊥) → number < 12 → false ≡ anchor_told why
-  told_below z h = told_as z (no_record (leb 12) refl number (lt-leb 12 number h))
+  pub told_below : number < 12 → false ≡ anchor_told anchor
+  told_below h = told_as (no_record (leb 12) refl number (lt-leb 12 number h))
 
-  pub told_between : 19 ≤ number → number < 23 → false ≡ anchor_told why
+  pub told_between : 19 ≤ number → number < 23 → false ≡ anchor_told anchor
   told_between m h =
-      told_as (λ z. omega arith) (no_record (λ (n : ℕ). leb n 18 || leb 23 n) refl number (rw (lt-leb number 18 (omega arith), lt-leb 23 number h) refl))
+      told_as (no_record (λ (n : ℕ). leb n 18 || leb 23 n) refl number (rw (lt-leb number 18 (omega arith), lt-leb 23 number h) refl))
 
-  pub told_above : 26 ≤ number → false ≡ anchor_told why
-  told_above m = told_as (λ z. omega arith) (no_record (λ (n : ℕ). leb n 25) refl number (lt-leb number 25 (omega arith)))
+  pub told_above : 26 ≤ number → false ≡ anchor_told anchor
+  told_above m = told_as (no_record (λ (n : ℕ). leb n 25) refl number (lt-leb number 25 (omega arith)))
 
-pub ruleset told_laws = (told_none, told_12_to_18, told_23_to_25, told_below, told_between, told_above)
+pub ruleset told_laws = (told_accepted, told_12_to_18, told_23_to_25, told_below, told_between, told_above)
 
 -- ---- `type_follows`
 
@@ -165,7 +164,7 @@ module _ (rows : Rows) (type : ℕ) (t : Bool) (e : t ≡ type_leans type) where
   fine = type_allowed (in_block variants_to_a_block rows.variant) type
 
   -- nothing is asked but the type
-  by_type : (b : Bool) → not (type_leans type) || anchor_told rows.refusal ≡ true → b ≡ b && (not (type_leans type) || anchor_told rows.refusal)
+  by_type : (b : Bool) → not (type_leans type) || anchor_told rows.anchor ≡ true → b ≡ b && (not (type_leans type) || anchor_told rows.anchor)
   by_type true e = sym e
   by_type false e = refl
 
@@ -174,16 +173,16 @@ module _ (rows : Rows) (type : ℕ) (t : Bool) (e : t ≡ type_leans type) where
     unfolding type_follows
     stands_alone p = g ∙ ap (λ (z : BlockVariant). type_allowed z type) s ∙ by_type fine (rw (sym e ∙ not-true t p) refl)
 
-    pub with_anchor : not t ≡ false → (a : Bool) → a ≡ anchor_told rows.refusal → not a ≡ false → r ≡ type_follows rows type
+    pub with_anchor : not t ≡ false → (a : Bool) → a ≡ anchor_told rows.anchor → not a ≡ false → r ≡ type_follows rows type
     unfolding type_follows
     with_anchor p a d q =
         g ∙ ap (λ (z : BlockVariant). type_allowed z type) s ∙ by_type fine (rw (sym e ∙ not-false t p, sym d ∙ not-false a q) refl)
 
-  pub no_anchor : not t ≡ false → (a : Bool) → a ≡ anchor_told rows.refusal → not a ≡ true → false ≡ type_follows rows type
+  pub no_anchor : not t ≡ false → (a : Bool) → a ≡ anchor_told rows.anchor → not a ≡ true → false ≡ type_follows rows type
   unfolding type_follows
   no_anchor p a d q = go fine (sym e ∙ not-false t p) (sym d ∙ not-true a q)
     where
-      go : (b : Bool) → type_leans type ≡ true → anchor_told rows.refusal ≡ false → false ≡ b && (not (type_leans type) || anchor_told rows.refusal)
+      go : (b : Bool) → type_leans type ≡ true → anchor_told rows.anchor ≡ false → false ≡ b && (not (type_leans type) || anchor_told rows.anchor)
       go true l m = rw (l, m) refl
       go false l m = refl
 

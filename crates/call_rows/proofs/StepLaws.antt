@@ -1,5 +1,6 @@
 -- What each way out of a step says, from what the code was told of the record.
 -- Assumes nothing.
+use Rattle.std.specs.Prelude.{Result, Ok, Err, is_ok, ⊤}
 use mathlib.Core.Path.{◌≡◌, refl, sym, ap, ◌∙◌}
 use Prim.Native.Nat.{ℕ, ◌+◌, ◌≤◌}
 use native.Mathlib.Numerals.{add-one}
@@ -8,12 +9,10 @@ use mathlib.Core.List.{List, [], ◌++◌}
 use lib.ListN.{length, take, drop, replicate, length-take, length-append, length-drop}
 use lib.Seq.{take_at, length-take-le}
 use native.Mathlib.Omega.{arith}
-use lib.Dec.{eqb}
-use borrow.Author.Tests.{eq-eqb, ne_eqb}
+use Rattle.format.proofs.Rules.{never_both}
+use Rattle.format.specs.declared.FileVariant.{FileVariant}
 use Rattle.format.specs.declared.Refusal.{Refusal}
-use Rattle.format.specs.declared.Reply.{Reply}
-use Rattle.format.specs.declared.Reply.TheVariants.{Accepted, Refused}
-use Rattle.format.specs.Base.{pick, Out, ok, refused, refusal, named, naming, map_out}
+use Rattle.format.specs.Base.{pick, Out, ok, refused, named, naming, map_out}
 use Rattle.format.specs.Body.{type_leans, type_phased, Body, read_body, body_categories}
 use Rattle.format.specs.Variant.{file_variant}
 use Rattle.format.specs.Reply.{named_reply, emptied}
@@ -31,16 +30,16 @@ use Rattle.call_rows.specs.Calls.{Left, row_left, past, answered, alone, leaning
 
 -- ---- past a record that leans on none
 
-module _ (rows : Rows) (end : ℕ) (got : Reply) (output work : List ℕ) (next : Rows) (why : Refusal) (n : next ≡ past rows end why) (work₁ : List ℕ) where
-  pub kept_refused : got ≡ Refused why → work₁ ≡ replicate rows.fields.samples 0 ++ drop rows.fields.samples work
-      → kept (answered next (Refused why)) work₁ ≡ row_kept rows end got output work
+module _ (rows : Rows) (end : ℕ) (got : Result ⊤ Refusal) (output work : List ℕ) (next : Rows) (work₁ : List ℕ) where
+  pub kept_refused : (why : Refusal) → next ≡ past rows end (Err why) → got ≡ Err why → work₁ ≡ replicate rows.fields.samples 0 ++ drop rows.fields.samples work
+      → kept (answered next (Err why)) work₁ ≡ row_kept rows end got output work
   unfolding row_kept
-  kept_refused q w = rw (q, n, w) refl
+  kept_refused why n q w = rw (q, n, w) refl
 
-  pub kept_accepted : why ≡ refusal 0 0 → got ≡ Accepted → work₁ ≡ take rows.fields.samples output ++ drop rows.fields.samples work
-      → kept (answered next Accepted) work₁ ≡ row_kept rows end got output work
+  pub kept_accepted : next ≡ past rows end (Ok tt) → got ≡ Ok tt → work₁ ≡ take rows.fields.samples output ++ drop rows.fields.samples work
+      → kept (answered next (Ok tt)) work₁ ≡ row_kept rows end got output work
   unfolding row_kept
-  kept_accepted z q w = rw (q, n, z, w) refl
+  kept_accepted n q w = rw (q, n, w) refl
 
 pub ruleset kept_laws = (kept_refused, kept_accepted)
 
@@ -50,7 +49,7 @@ abbrev left_of : List ℕ → Kept → Left
 left_of output (kept step work) = row_left step output work
 
 module _ (rows : Rows) (held : List ℕ) (p : Place) (output work : List ℕ) (stands : type_leans p.record_type ≡ false)
-    (room : rows.fields.samples ≤ length output) (read got : Reply) (output₁ : List ℕ) (same : length output₁ ≡ length output)
+    (room : rows.fields.samples ≤ length output) (read got : Result ⊤ Refusal) (output₁ : List ℕ) (same : length output₁ ≡ length output)
     (d : record_left read output₁ ≡ straight rows.fields.samples p.record_type (take p.end held) p.start output)
     (v : got ≡ named_reply rows.variant read) (step : RowStep) (work₁ : List ℕ) (k : kept step work₁ ≡ row_kept rows p.end got output₁ work) where
   abbrev n : ℕ
@@ -61,8 +60,8 @@ module _ (rows : Rows) (held : List ℕ) (p : Place) (output work : List ℕ) (s
 
   -- a step, by what the record is read as
   abbrev alone_as : Out (List ℕ) → Left
-  alone_as (ok row left) = alone rows p.end output (record_left Accepted (row ++ drop n work))
-  alone_as (refused why) = alone rows p.end output (record_left (Refused (named rows.variant why)) (emptied n work))
+  alone_as (ok row left) = alone rows p.end output (record_left (Ok tt) (row ++ drop n work))
+  alone_as (refused why) = alone rows p.end output (record_left (Err (named rows.variant why)) (emptied n work))
 
   alone_over : over_nothing rows held p output work ≡ alone_as own
   unfolding recorded
@@ -86,34 +85,38 @@ module _ (rows : Rows) (held : List ℕ) (p : Place) (output work : List ℕ) (s
       go : (m : Out (List ℕ)) → record_left read output₁ ≡ straight_replied n output m → row_left step output₁ work₁ ≡ alone_as m
       go (refused why) t =
           let o : output₁ ≡ output = ap row_of t in
-          let x : got ≡ Refused (named rows.variant why) = v ∙ ap (λ (z : RecordLeft). named_reply rows.variant (reply_of z)) t in
-          ap (left_of output₁) (k ∙ ap (λ (z : Reply). row_kept rows p.end z output₁ work) x) ∙ rw o refl
+          let x : got ≡ Err (named rows.variant why) = v ∙ ap (λ (z : RecordLeft). named_reply rows.variant (reply_of z)) t in
+          ap (left_of output₁) (k ∙ ap (λ (z : Result ⊤ Refusal). row_kept rows p.end z output₁ work) x) ∙ rw o refl
       go (ok row left) t =
           let o : output₁ ≡ row ++ drop n output = ap row_of t in
-          let x : got ≡ Accepted = v ∙ ap (λ (z : RecordLeft). named_reply rows.variant (reply_of z)) t in
+          let x : got ≡ (Ok tt) = v ∙ ap (λ (z : RecordLeft). named_reply rows.variant (reply_of z)) t in
           let count : length row ≡ n = omega (arith, ap length o, length-append row (drop n output), length-drop n output) in
           let own_row : take n output₁ ≡ row = ap (take n) o ∙ take_at row (drop n output) n count in
-          ap (left_of output₁) (k ∙ ap (λ (z : Reply). row_kept rows p.end z output₁ work) x)
+          ap (left_of output₁) (k ∙ ap (λ (z : Result ⊤ Refusal). row_kept rows p.end z output₁ work) x)
           ∙ rw (own_row, take_at row (drop n work) n count, o) refl
 
 -- ---- one that leans: checked over the work area
 
 module _ (rows : Rows) (held : List ℕ) (p : Place) (work : List ℕ) where
-  pub checked_anchor : (rows.refusal.number ≡ 0 → ⊥) → Refused rows.refusal ≡ leaning_checked rows held p work
+  pub checked_anchor : (why : Refusal) → rows.anchor ≡ Err why → Err why ≡ leaning_checked rows held p work
   unfolding leaning_checked
-  checked_anchor r = rw (ne_eqb rows.refusal.number 0 r)
+  checked_anchor why q = rw q
 
-  pub checked_body : rows.refusal.number ≡ 0 → (read got : Reply)
+  pub checked_body : rows.anchor ≡ Ok tt → (read got : Result ⊤ Refusal)
       → read ≡ body_checked rows.fields.samples p.record_type (take p.end held) p.start work → got ≡ named_reply rows.variant read
       → got ≡ leaning_checked rows held p work
   unfolding leaning_checked
-  checked_body z read got e v = rw (eq-eqb rows.refusal.number 0 z) (v ∙ ap (named_reply rows.variant) e)
+  checked_body z read got e v = rw z (v ∙ ap (named_reply rows.variant) e)
 
 -- a type that leans is not of a record that is phased and leans on none
 pub leans_there : (type : ℕ) → type_leans type ≡ true → type_phased type ≡ true → type_leans type ≡ true
 leans_there type l t = l
 
 -- ---- then read over a copy of it
+
+unnamed : (v : FileVariant) (r : Result ⊤ Refusal) → named_reply v r ≡ Ok tt → r ≡ Ok tt
+unnamed v (Ok tt) e = refl
+unnamed v (Err why) e = let z : ◌≡◌ {A = ℕ} 0 1 = cc in absurd (omega arith)
 
 module _ (rows : Rows) (held : List ℕ) (p : Place) (output work : List ℕ) (ready : RowReady rows held p work) where
   abbrev N : ℕ
@@ -141,44 +144,45 @@ module _ (rows : Rows) (held : List ℕ) (p : Place) (output work : List ℕ) (r
       ∙ left_named rows.variant N copied (read_body (length cut) N (take N work) p.record_type (drop p.start cut))
 
   -- what the check says, by how the anchor was read and how the record is
-  abbrev pub checked_as : Bool → Out Body → Reply
-  checked_as b m = pick b (replied m) (Refused rows.refusal)
+  abbrev pub checked_as : Bool → Out Body → Result ⊤ Refusal
+  checked_as b m = pick b (replied m) rows.anchor
 
   abbrev left_as : Bool → Out Body → Left
   left_as b m =
       pick b (leaning rows p.end output work (record_replied N copied m))
-      (row_left (answered (past rows p.end rows.refusal) (Refused rows.refusal)) output work)
+      (row_left (answered (past rows p.end rows.anchor) rows.anchor) output work)
 
-  over : over_anchor rows held p output work ≡ left_as (eqb rows.refusal.number 0) read
+  over : over_anchor rows held p output work ≡ left_as (is_ok rows.anchor) read
   over = rw over_copy
 
-  module _ (next : Rows) (n : next ≡ past rows p.end rows.refusal) (got : Reply) (told : got ≡ leaning_checked rows held p work) where
-    pub checked : got ≡ checked_as (eqb rows.refusal.number 0) read
+  module _ (next : Rows) (n : next ≡ past rows p.end rows.anchor) (got : Result ⊤ Refusal) (told : got ≡ leaning_checked rows held p work) where
+    pub checked : got ≡ checked_as (is_ok rows.anchor) read
     unfolding leaning_checked body_checked
     checked =
         told
-        ∙ ap (λ (reply : Reply). pick (eqb rows.refusal.number 0) reply (Refused rows.refusal))
+        ∙ ap (λ (reply : Result ⊤ Refusal). pick (is_ok rows.anchor) reply rows.anchor)
         (replied_named rows.variant (read_body (length cut) N (take N work) p.record_type (drop p.start cut)))
 
-    pub leaning_refused : (why : Refusal) → got ≡ Refused why → row_left (answered next (Refused why)) output work ≡ over_anchor rows held p output work
-    leaning_refused why q = go (eqb rows.refusal.number 0) read checked ∙ sym over
+    pub leaning_refused : (why : Refusal) → got ≡ Err why → row_left (answered next (Err why)) output work ≡ over_anchor rows held p output work
+    leaning_refused why q = go (is_ok rows.anchor) read checked ∙ sym over
       where
-        go : (b : Bool) (m : Out Body) → got ≡ checked_as b m → row_left (answered next (Refused why)) output work ≡ left_as b m
+        go : (b : Bool) (m : Out Body) → got ≡ checked_as b m → row_left (answered next (Err why)) output work ≡ left_as b m
         go true (ok body left) e = absurd (let y : ◌≡◌ {A = ℕ} 0 1 = cc in omega arith)
         go true (refused other) e = cc
         go false m e = cc
 
-    pub leaning_accepted : (output₁ output₂ : List ℕ) (got₂ : Reply) → got ≡ Accepted → output₁ ≡ take N work ++ drop N output
+    pub leaning_accepted : (output₁ output₂ : List ℕ) (got₂ : Result ⊤ Refusal) → got ≡ Ok tt → output₁ ≡ take N work ++ drop N output
         → record_left got₂ output₂ ≡ recorded N p.record_type cut p.start output₁
-        → row_left (answered next Accepted) output₂ work ≡ over_anchor rows held p output work
-    leaning_accepted output₁ output₂ got₂ q f d = go (eqb rows.refusal.number 0) read checked refl ∙ sym over
+        → row_left (answered next got₂) output₂ work ≡ over_anchor rows held p output work
+    leaning_accepted output₁ output₂ got₂ q f d = go (is_ok rows.anchor) refl read checked refl ∙ sym over
       where
-        go : (b : Bool) (m : Out Body) → got ≡ checked_as b m → read ≡ m → row_left (answered next Accepted) output₂ work ≡ left_as b m
-        go false m e r = absurd (let y : ◌≡◌ {A = ℕ} 0 1 = cc in omega arith)
-        go true (refused other) e r = absurd (let y : ◌≡◌ {A = ℕ} 0 1 = cc in omega arith)
-        go true (ok body left) e r =
+        go : (b : Bool) → is_ok rows.anchor ≡ b → (m : Out Body) → got ≡ checked_as b m → read ≡ m → row_left (answered next got₂) output₂ work ≡ left_as b m
+        go false t m e r = never_both (ap is_ok (sym e ∙ q)) t
+        go true t (refused other) e r = absurd (let y : ◌≡◌ {A = ℕ} 0 1 = cc in omega arith)
+        go true t (ok body left) e r =
             let again : record_left (named_reply rows.variant got₂) output₂ ≡ record_replied N copied (ok body left)
             = ap (named_left rows.variant) (rw f at d) ∙ over_copy ∙ ap (record_replied N copied) r in
+            let fine : got₂ ≡ Ok tt = unnamed rows.variant got₂ (ap reply_of again) in
             cc
 
 -- the data cut where the record ends
@@ -193,9 +197,9 @@ pub buffer_room : (n : ℕ) (buffer buffer₁ : List ℕ) → n ≤ length buffe
 buffer_room n buffer buffer₁ h e = omega arith
 
 -- past a record
-pub past_is : (rows : Rows) (end : ℕ) (why : Refusal)
-    → record { fields = rows.fields; variant = file_variant (rows.variant.0 + 1); start = end; refusal = why } ≡ past rows end why
-past_is rows end why = rw add-one
+pub past_is : (rows : Rows) (end : ℕ) (anchor : Result ⊤ Refusal)
+    → record { fields = rows.fields; variant = file_variant (rows.variant.0 + 1); start = end; anchor = anchor } ≡ past rows end anchor
+past_is rows end anchor = rw add-one
 
 pub ruleset checked_laws = (checked_anchor, checked_body, leans_there, cut_end, cut_holds)
 

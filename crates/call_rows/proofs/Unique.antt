@@ -1,15 +1,16 @@
 -- Of each call: two replies that the contract allows are equal (format, proofs/Unique).
 -- Assumes nothing.
+use Rattle.std.specs.Prelude.{Result, Ok, Err}
+use Rattle.call_rows.specs.declared.Rows.{Rows}
+use Rattle.format.specs.declared.Refusal.{Refusal}
 use mathlib.Core.Path.{◌≡◌, sym, ap, ap₂, ◌∙◌}
 use contract.Lifetimes.{Lfts}
 use borrow.Fn.World.{ArgsD}
 use denote.Triple.Clauses.{AtExit}
-use Rattle.format.specs.Reply.{Read}
+use Rattle.format.specs.Reply.{answer, Read}
 use Rattle.format.proofs.Unique.{same_read}
-use Rattle.call_rows.specs.declared.RowsReply.{RowsReply}
-use Rattle.call_rows.specs.declared.RowsReply.TheVariants.{Started, Refused}
 use Rattle.call_rows.specs.declared.RowStep.{RowStep}
-use Rattle.call_rows.specs.Calls.{rows_answer, Left, answered, row_left}
+use Rattle.call_rows.specs.Calls.{Left, answered, row_left}
 use Rattle.call_rows.specs.Phased.{LeftPhased, phased_row_left}
 use Rattle.call_rows.specs.contracts.start_rows as start
 use Rattle.call_rows.proofs.start_rows.Reads as start_contract
@@ -18,14 +19,14 @@ use Rattle.call_rows.proofs.next_row.Reads as next_contract
 use Rattle.call_rows.specs.contracts.phased.next_phased_row as phased
 use Rattle.call_rows.proofs.phased.next_phased_row.Reads as phased_contract
 
-same_start : (r s : RowsReply) → rows_answer r ≡ rows_answer s → r ≡ s
-same_start (Started rows) (Started other) e = cc
-same_start (Started rows) (Refused why) e = cc
-same_start (Refused why) (Started rows) e = cc
-same_start (Refused why) (Refused other) e = cc
+same_start : (r s : Result Rows Refusal) → answer r ≡ answer s → r ≡ s
+same_start (Ok rows) (Ok other) e = cc
+same_start (Ok rows) (Err why) e = cc
+same_start (Err why) (Ok rows) e = cc
+same_start (Err why) (Err other) e = cc
 
 -- the answers
-pub start_rows_unique : (κs : Lfts 2) (lent : ArgsD start.signature κs) (r s : RowsReply) (left left₁ : AtExit start.ended κs)
+pub start_rows_unique : (κs : Lfts 2) (lent : ArgsD start.signature κs) (r s : Result Rows Refusal) (left left₁ : AtExit start.ended κs)
     → start_contract.Post κs lent r left → start_contract.Post κs lent s left₁ → r ≡ s
 start_rows_unique κs lent r s left left₁ p q = same_start r s (p ∙ sym q)
 

@@ -1,30 +1,24 @@
 -- The two calls of a way through a file: for any state and any slices the reply, the state moved on, and both lent buffers afterwards. A step is defined over
 -- an index and the data that it speaks of, `held`, as code below the public calls is: a file in one piece is both.
 -- Assumes nothing.
-use Rattle.std.specs.Prelude.{◌≡◌, ℕ, ◌+◌, ◌≤◌, ◌<◌, Bool, not, ◌&&◌, ◌||◌, List, [], ◌∷◌, ◌++◌, length, take, drop, eqb, leb, ltb}
+use Rattle.std.specs.Prelude.{◌≡◌, ℕ, ◌+◌, ◌≤◌, ◌<◌, Bool, true, not, ◌&&◌, ◌||◌, List, [], ◌++◌, length, take, drop, leb, ltb, Result, Ok, Err, is_ok, ⊤}
 use Rattle.format.specs.declared.Fields.{Fields}
-use Rattle.format.specs.declared.Reply.{Reply}
-use Rattle.format.specs.declared.Reply.TheVariants.{Accepted, Refused}
 use Rattle.format.specs.declared.Refusal.{Refusal}
-use Rattle.format.specs.Base.{pick, Out, ok, refused, refusal, bind, need, need_of}
+use Rattle.format.specs.Base.{pick, Out, ok, refused, bind, need, need_of}
 use Rattle.format.specs.Limits.{most_samples, most_variants, variants_to_a_block}
 use Rattle.format.specs.Classes.{record_numbers, among}
 use Rattle.format.specs.Body.{kind_of, type_leans}
 use Rattle.format.specs.Variant.{file_variant, no_variant, next_variant, in_block}
 use Rattle.format.specs.Layout.{fields_of, from_1_to, first_record, Layout, fixed_of, type_allowed}
 use Rattle.format.specs.Header.{type_place}
-use Rattle.format.specs.Reply.{Verdict, verdict, named_reply, plain_answer, emptied, holds_row, with_layout}
+use Rattle.format.specs.Reply.{Verdict, verdict, named_reply, answer, emptied, holds_row, with_layout}
 use Rattle.head_blocks.specs.Parts.{fixed}
 use Rattle.head_records.specs.Extent.{record_type, record_size}
 use Rattle.head_places.specs.declared.Place.{Place}
 use Rattle.read_record.specs.Recorded.{RecordLeft, record_left, named_left, recorded}
 use Rattle.read_check.specs.Checked.{body_checked}
 use Rattle.call_rows.specs.declared.Rows.{Rows}
-use Rattle.call_rows.specs.declared.RowsReply.{RowsReply}
-use Rattle.call_rows.specs.declared.RowsReply.TheVariants as rows_reply
 use Rattle.call_rows.specs.declared.RowStep.{RowStep}
-use Rattle.call_rows.specs.declared.NextRecord.{NextRecord}
-use Rattle.call_rows.specs.declared.NextRecord.TheVariants as next_as
 
 -- ---- the start
 
@@ -34,13 +28,8 @@ first_row f = record {
   fields = f;
   variant = file_variant 0;
   start = first_record variants_to_a_block (fixed f);
-  refusal = refusal 0 0;
+  anchor = Ok tt;
 }
-
--- 01, Forms for each place: "Where an answer is an enum, a definition gives this paper's number and values for each of its cases"
-abbrev pub rows_answer : RowsReply → Out Rows
-rows_answer (rows_reply.Started rows) = ok rows []
-rows_answer (rows_reply.Refused why) = refused why
 
 -- 01, Replies: the header check, then 10, "a lent buffer of wrong size"
 unfoldable pub start_rows_call : List ℕ → List ℕ → Out Rows
@@ -66,12 +55,13 @@ record_of rows index = record {
 }
 
 -- the state tells how its anchor was read: accepted, or refused as a record is
-unfoldable pub anchor_told : Refusal → Bool
-anchor_told why = among (0 ∷ record_numbers) why.number
+unfoldable pub anchor_told : Result ⊤ Refusal → Bool
+anchor_told (Ok done) = true
+anchor_told (Err why) = among record_numbers why.number
 
 -- 01, The header: "its kind is not 2 or 3 at the first variant of a block", where there is no anchor; nor where the state tells of none
 unfoldable pub type_follows : Rows → ℕ → Bool
-type_follows rows type = type_allowed (in_block variants_to_a_block rows.variant) type && (not (type_leans type) || anchor_told rows.refusal)
+type_follows rows type = type_allowed (in_block variants_to_a_block rows.variant) type && (not (type_leans type) || anchor_told rows.anchor)
 
 -- 8, "type not allowed", which names the state's variant; 9, "records don't end at the file's end"
 unfoldable pub record_checked : Rows → List ℕ → List ℕ → Out Place
@@ -84,9 +74,9 @@ unfoldable pub next_record : Rows → List ℕ → List ℕ → ℕ → ℕ → 
 next_record rows index held output work = bind (state_checked rows output work) (λ checked left. record_checked rows index held)
 
 -- as the code finds it
-abbrev pub found : NextRecord → Out Place
-found (next_as.At p) = ok p []
-found (next_as.Refused why) = refused why
+abbrev pub found : Result Place Refusal → Out Place
+found (Ok p) = ok p []
+found (Err why) = refused why
 
 -- ---- a step
 
@@ -98,46 +88,44 @@ pub record Left : Type 0 where
   pub work : List ℕ
 
 abbrev pub row_left : RowStep → List ℕ → List ℕ → Left
-row_left step output work = record { verdict = verdict (plain_answer step.reply); rows = step.rows; output = output; work = work }
+row_left step output work = record { verdict = verdict (answer step.reply); rows = step.rows; output = output; work = work }
 
--- past a record that ends there, with how the last record that leans on none was refused, its own variant named: number 0 at place 0 if it was accepted
-abbrev pub past : Rows → ℕ → Refusal → Rows
-past rows end why = record { fields = rows.fields; variant = next_variant rows.variant; start = end; refusal = why }
+-- past a record that ends there, with the reply of the last record that leans on none, which names its own variant
+abbrev pub past : Rows → ℕ → Result ⊤ Refusal → Rows
+past rows end anchor = record { fields = rows.fields; variant = next_variant rows.variant; start = end; anchor = anchor }
 
-abbrev pub answered : Rows → Reply → RowStep
+abbrev pub answered : Rows → Result ⊤ Refusal → RowStep
 answered rows reply = record { rows = rows; reply = reply }
 
 -- a record that leans on none, as the work area was left by reading it there
 abbrev pub alone : Rows → ℕ → List ℕ → RecordLeft → Left
-alone rows end output (record_left Accepted work) =
-    row_left (answered (past rows end (refusal 0 0)) Accepted) (take rows.fields.samples work ++ drop rows.fields.samples output) work
-alone rows end output (record_left (Refused why) work) = row_left (answered (past rows end why) (Refused why)) output work
+alone rows end output (record_left (Ok tt) work) =
+    row_left (answered (past rows end (Ok tt)) (Ok tt)) (take rows.fields.samples work ++ drop rows.fields.samples output) work
+alone rows end output (record_left (Err why) work) = row_left (answered (past rows end (Err why)) (Err why)) output work
 
 -- its answer by its reply, and the work area: its categories, which the output holds, stay there for those that lean on it; after a refusal the first N bytes
 -- are zero
 pub data Kept : Type 0 where
   kept : RowStep → List ℕ → Kept
 
-unfoldable pub row_kept : Rows → ℕ → Reply → List ℕ → List ℕ → Kept
-row_kept rows end Accepted output work =
-    kept (answered (past rows end (refusal 0 0)) Accepted) (take rows.fields.samples output ++ drop rows.fields.samples work)
-row_kept rows end (Refused why) output work = kept (answered (past rows end why) (Refused why)) (emptied rows.fields.samples work)
+unfoldable pub row_kept : Rows → ℕ → Result ⊤ Refusal → List ℕ → List ℕ → Kept
+row_kept rows end (Ok tt) output work =
+    kept (answered (past rows end (Ok tt)) (Ok tt)) (take rows.fields.samples output ++ drop rows.fields.samples work)
+row_kept rows end (Err why) output work = kept (answered (past rows end (Err why)) (Err why)) (emptied rows.fields.samples work)
 
 -- one that leans, as the output would be left by reading it there over the anchor's row
 abbrev pub leaning : Rows → ℕ → List ℕ → List ℕ → RecordLeft → Left
-leaning rows end output work (record_left Accepted row) = row_left (answered (past rows end rows.refusal) Accepted) row work
-leaning rows end output work (record_left (Refused why) row) = row_left (answered (past rows end rows.refusal) (Refused why)) output work
+leaning rows end output work (record_left (Ok tt) row) = row_left (answered (past rows end rows.anchor) (Ok tt)) row work
+leaning rows end output work (record_left (Err why) row) = row_left (answered (past rows end rows.anchor) (Err why)) output work
 
 -- a record at its place, over a row. 02, Ask 2: a refusal names "the variant in whose record or type the fault lies"
 abbrev pub read_at : Rows → List ℕ → Place → List ℕ → RecordLeft
 read_at rows held p row = named_left rows.variant (recorded rows.fields.samples p.record_type (take p.end held) p.start row)
 
 -- 01, Replies: "an anchor is checked before the record that leans on it": refused as its anchor was, or checked over the anchor's row
-unfoldable pub leaning_checked : Rows → List ℕ → Place → List ℕ → Reply
+unfoldable pub leaning_checked : Rows → List ℕ → Place → List ℕ → Result ⊤ Refusal
 leaning_checked rows held p work =
-    pick (eqb rows.refusal.number 0)
-    (named_reply rows.variant (body_checked rows.fields.samples p.record_type (take p.end held) p.start work))
-    (Refused rows.refusal)
+    pick (is_ok rows.anchor) (named_reply rows.variant (body_checked rows.fields.samples p.record_type (take p.end held) p.start work)) rows.anchor
 
 -- a record that leans on none, as if it were read in the work area
 abbrev pub over_nothing : Rows → List ℕ → Place → List ℕ → List ℕ → Left
@@ -146,12 +134,12 @@ over_nothing rows held p output work = alone rows p.end output (read_at rows hel
 -- 01, Replies: "an anchor is checked before the record that leans on it": refused as its anchor was, or read over the anchor's row, which the work area holds
 abbrev pub over_anchor : Rows → List ℕ → Place → List ℕ → List ℕ → Left
 over_anchor rows held p output work =
-    pick (eqb rows.refusal.number 0)
+    pick (is_ok rows.anchor)
     (leaning rows p.end output work (read_at rows held p (take rows.fields.samples work ++ drop rows.fields.samples output)))
-    (row_left (answered (past rows p.end rows.refusal) (Refused rows.refusal)) output work)
+    (row_left (answered (past rows p.end rows.anchor) rows.anchor) output work)
 
 abbrev pub stepped : Rows → List ℕ → List ℕ → List ℕ → Out Place → Left
-stepped rows held output work (refused why) = row_left (answered rows (Refused why)) output work
+stepped rows held output work (refused why) = row_left (answered rows (Err why)) output work
 stepped rows held output work (ok p left) =
     pick (type_leans p.record_type) (over_anchor rows held p output work) (over_nothing rows held p output work)
 

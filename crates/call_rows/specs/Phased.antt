@@ -1,6 +1,6 @@
 -- The call for the next variant's phases besides its categories: as the call for its categories alone (Calls), with one lent buffer more.
 -- Assumes nothing.
-use Rattle.std.specs.Prelude.{ℕ, min, List, ◌++◌, length, take, drop, eqb}
+use Rattle.std.specs.Prelude.{ℕ, min, List, ◌++◌, length, take, drop, is_ok}
 use Rattle.format.specs.Base.{pick, Out, ok, refused}
 use Rattle.format.specs.Body.{type_leans, Body, read_body, body_phases}
 use Rattle.head_places.specs.declared.Place.{Place}
@@ -39,7 +39,7 @@ phased_over_nothing rows held p output phases work = with_phases (over_nothing r
 -- 01, Replies: "an anchor is checked before the record that leans on it": where it was refused the phases stay
 abbrev pub phased_over_anchor : Rows → List ℕ → Place → List ℕ → List ℕ → List ℕ → LeftPhased
 phased_over_anchor rows held p output phases work =
-    with_phases (over_anchor rows held p output work) (pick (eqb rows.refusal.number 0) (phases_at rows held p phases work) phases)
+    with_phases (over_anchor rows held p output work) (pick (is_ok rows.anchor) (phases_at rows held p phases work) phases)
 
 abbrev pub phased_stepped : Rows → List ℕ → List ℕ → List ℕ → List ℕ → Out Place → LeftPhased
 phased_stepped rows held output phases work (refused why) = with_phases (stepped rows held output work (refused why)) phases

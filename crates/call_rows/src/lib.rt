@@ -5,13 +5,14 @@
 ghost use Rattle.std.specs.Prelude.{◌≡◌, true, false, ◌≤◌, ◌<◌, length};
 ghost use Rattle.format.specs.Limits.{most_variants};
 ghost use Rattle.format.specs.Body.{type_leans};
-ghost use Rattle.call_rows.specs.Calls.{first_row, rows_answer, start_rows_call, past, kept, row_kept, RowReady, over_nothing};
+ghost use Rattle.format.specs.Reply.{answer};
+ghost use Rattle.call_rows.specs.Calls.{first_row, start_rows_call, past, kept, row_kept, RowReady, over_nothing};
 ghost use Rattle.call_rows.specs.Calls.{leaning_checked, over_anchor, row_left, next_row_in, next_row_call};
 
 use base_cursor::Cursor;
 use base_rows::{clear, copy};
 use call_open::open;
-use format::{Fields, FileVariant, HeaderReply, Refusal, Reply, named_reply, refusal_at};
+use format::{Fields, FileVariant, Refusal, named_reply};
 use head_blocks::first_record;
 use head_places::Place;
 use head_types::type_leans;
@@ -24,27 +25,20 @@ pub mod phased;
 use crate::next::next_record;
 pub use phased::next_phased_row;
 
-// The next variant, where its record starts, and the refusal of the last record that leans on none, which names it: number 0 if it was accepted.
+// The next variant, where its record starts, and the reply of the last record that leans on none, whose refusal names it.
 #[derive(Clone, Copy)]
 pub struct Rows {
     pub fields: Fields,
     pub variant: FileVariant,
     pub start: usize,
-    pub refusal: Refusal,
-}
-
-// What a start call gives.
-#[derive(Clone, Copy)]
-pub enum RowsReply {
-    Started(Rows),
-    Refused(Refusal),
+    pub anchor: Result<(), Refusal>,
 }
 
 // What the next call gives: its reply, and the state moved on.
 #[derive(Clone, Copy)]
 pub struct RowStep {
     pub rows: Rows,
-    pub reply: Reply,
+    pub reply: Result<(), Refusal>,
 }
 
 // Before the first variant of a file with these fields.
@@ -56,62 +50,58 @@ pub fn first_row(fields: Fields) -> Rows
         fields,
         variant: FileVariant(0),
         start: first_record(fields),
-        refusal: refusal_at(0, 0),
+        anchor: Ok(()),
     }
 }
 
 // The header check, which is made once. 10: the work area needs a byte for each sample.
-pub fn start_rows(file: &[u8], work: &[u8]) -> RowsReply
-    ensures { rows_answer result ≡ start_rows_call file.now work.now }
+pub fn start_rows(file: &[u8], work: &[u8]) -> Result<Rows, Refusal>
+    ensures { answer result ≡ start_rows_call file.now work.now }
 {
-    let found = open(file, work.len());
-    match found {
-        HeaderReply::Refused(why) => RowsReply::Refused(why),
-        HeaderReply::Accepted(fields) => RowsReply::Started(first_row(fields)),
-    }
-}
-
-// Where the next record stands, or why none is read.
-#[derive(Clone, Copy)]
-pub enum NextRecord {
-    At(Place),
-    Refused(Refusal),
+    let fields = open(file, work.len())?;
+    Ok(first_row(fields))
 }
 
 // Past a record that ends at a place.
-fn past(rows: Rows, end: usize, refusal: Refusal) -> Rows
+fn past(rows: Rows, end: usize, anchor: Result<(), Refusal>) -> Rows
     requires { rows.variant.0 < most_variants }
-    ensures { result ≡ past rows end refusal }
+    ensures { result ≡ past rows end anchor }
 {
     let fields = rows.fields;
     Rows {
         fields,
         variant: FileVariant(rows.variant.0 + 1),
         start: end,
-        refusal,
+        anchor,
     }
 }
 
 // Past a record that leans on none, by its reply. Its categories, which the output holds, are copied to the work area, where they stay for those that lean on
 // it.
-fn keep_row(rows: Rows, end: usize, got: Reply, output: &[u8], work: &mut [u8]) -> RowStep
+fn keep_row(
+    rows: Rows,
+    end: usize,
+    got: Result<(), Refusal>,
+    output: &[u8],
+    work: &mut [u8],
+) -> RowStep
     requires { (rows.variant.0 < most_variants) × (rows.fields.samples ≤ length output.now) × (rows.fields.samples ≤ length work.old) }
     ensures { kept result work.new ≡ row_kept rows end got output.now work.old }
 {
     let n = rows.fields.samples;
     match got {
-        Reply::Refused(why) => {
+        Err(why) => {
             clear(work, n);
             RowStep {
-                rows: past(rows, end, why),
-                reply: Reply::Refused(why),
+                rows: past(rows, end, Err(why)),
+                reply: Err(why),
             }
         }
-        Reply::Accepted => {
+        Ok(()) => {
             copy(output, n, work);
             RowStep {
-                rows: past(rows, end, refusal_at(0, 0)),
-                reply: Reply::Accepted,
+                rows: past(rows, end, Ok(())),
+                reply: Ok(()),
             }
         }
     }
@@ -141,15 +131,12 @@ fn step_alone(rows: Rows, held: &[u8], p: Place, output: &mut [u8], work: &mut [
 }
 
 // One that leans is refused as its anchor was, or checked over the anchor's row, which the work area holds.
-fn leaning_checked(rows: Rows, held: &[u8], p: Place, work: &[u8]) -> Reply
+fn leaning_checked(rows: Rows, held: &[u8], p: Place, work: &[u8]) -> Result<(), Refusal>
     requires { RowReady rows held.now p work.now × (type_leans p.record_type ≡ true) }
     ensures { result ≡ leaning_checked rows held.now p work.now }
 {
+    rows.anchor?;
     let end = p.end;
-    let anchors = rows.refusal;
-    if anchors.number != 0 {
-        return Reply::Refused(anchors);
-    }
     let n = rows.fields.samples;
     let got = check_body(&held[..end], Cursor { at: p.start }, n, p.record_type, work);
     named_reply(rows.variant, got)
@@ -162,26 +149,23 @@ fn step_leaning(rows: Rows, held: &[u8], p: Place, output: &mut [u8], work: &mut
 {
     let end = p.end;
     let n = rows.fields.samples;
-    let next = past(rows, end, rows.refusal);
-    let got = leaning_checked(rows, held, p, &work[..]);
-    match got {
-        Reply::Refused(why) => RowStep {
+    let next = past(rows, end, rows.anchor);
+    match leaning_checked(rows, held, p, &work[..]) {
+        Err(why) => RowStep {
             rows: next,
-            reply: Reply::Refused(why),
+            reply: Err(why),
         },
-        Reply::Accepted => {
+        Ok(()) => {
             copy(work, n, output);
-            read_body(
+            // accepted, as the check has found
+            let reply = read_body(
                 &held[..end],
                 Cursor { at: p.start },
                 n,
                 p.record_type,
                 output,
             );
-            RowStep {
-                rows: next,
-                reply: Reply::Accepted,
-            }
+            RowStep { rows: next, reply }
         }
     }
 }
@@ -191,13 +175,12 @@ fn next_row_in(rows: Rows, index: &[u8], held: &[u8], output: &mut [u8], work: &
     ensures { row_left result output.new work.new
         ≡ next_row_in rows index.now held.now output.old work.old }
 {
-    let sought = next_record(rows, index, held, output.len(), work.len());
-    match sought {
-        NextRecord::Refused(why) => RowStep {
+    match next_record(rows, index, held, output.len(), work.len()) {
+        Err(why) => RowStep {
             rows,
-            reply: Reply::Refused(why),
+            reply: Err(why),
         },
-        NextRecord::At(p) => {
+        Ok(p) => {
             if type_leans(p.record_type) {
                 return step_leaning(rows, held, p, output, work);
             }

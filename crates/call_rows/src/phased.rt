@@ -5,11 +5,10 @@ ghost use Rattle.call_rows.specs.Calls.{RowReady};
 ghost use Rattle.call_rows.specs.Phased.{phased_row_left, phased_over_nothing, phased_over_anchor, next_phased_row_in, next_phased_row_call};
 
 use crate::next::next_record;
-use crate::{NextRecord, RowStep, Rows, keep_row, leaning_checked, past};
+use crate::{RowStep, Rows, keep_row, leaning_checked, past};
 use base_cursor::Cursor;
 use base_rows::copy;
-use call_open::shorter;
-use format::{Reply, named_reply};
+use format::named_reply;
 use head_places::Place;
 use head_types::type_leans;
 use read_check::read_straight_phased;
@@ -64,16 +63,16 @@ fn phased_leaning(
 {
     let end = p.end;
     let n = rows.fields.samples;
-    let next = past(rows, end, rows.refusal);
-    let got = leaning_checked(rows, held, p, &work[..]);
-    match got {
-        Reply::Refused(why) => RowStep {
+    let next = past(rows, end, rows.anchor);
+    match leaning_checked(rows, held, p, &work[..]) {
+        Err(why) => RowStep {
             rows: next,
-            reply: Reply::Refused(why),
+            reply: Err(why),
         },
-        Reply::Accepted => {
+        Ok(()) => {
             copy(work, n, output);
-            read_phased(
+            // accepted, as the check has found
+            let reply = read_phased(
                 &held[..end],
                 Cursor { at: p.start },
                 n,
@@ -81,10 +80,7 @@ fn phased_leaning(
                 output,
                 phases,
             );
-            RowStep {
-                rows: next,
-                reply: Reply::Accepted,
-            }
+            RowStep { rows: next, reply }
         }
     }
 }
@@ -101,14 +97,13 @@ fn next_phased_row_in(
     ensures { phased_row_left result output.new phases.new work.new
         ≡ next_phased_row_in rows index.now held.now output.old phases.old work.old }
 {
-    let lent = shorter(output.len(), phases.len());
-    let sought = next_record(rows, index, held, lent, work.len());
-    match sought {
-        NextRecord::Refused(why) => RowStep {
+    let lent = output.len().min(phases.len());
+    match next_record(rows, index, held, lent, work.len()) {
+        Err(why) => RowStep {
             rows,
-            reply: Reply::Refused(why),
+            reply: Err(why),
         },
-        NextRecord::At(p) => {
+        Ok(p) => {
             if type_leans(p.record_type) {
                 return phased_leaning(rows, held, p, output, phases, work);
             }

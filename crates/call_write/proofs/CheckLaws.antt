@@ -1,28 +1,28 @@
 -- The checks before the record is measured, one after another.
 -- Assumes nothing.
+use Rattle.std.specs.Prelude.{Option, Some, None, Result, Ok, Err, ⊤}
 use mathlib.Core.Path.{◌≡◌, refl, sym, ap, ◌∙◌}
 use Prim.Native.Nat.{ℕ, suc, ◌+◌, ◌≤◌, ◌<◌}
 use native.Mathlib.Omega.{arith}
 use native.Mathlib.Nat.{zero-add, add-zero}
 use native.Mathlib.Numerals.{add-one}
-use mathlib.Core.Bool.{Bool, true, false, not}
+use mathlib.Core.Bool.{Bool, true, false}
 use mathlib.Core.List.{List, [], ◌∷◌}
 use lib.ListN.{length, get_or, drop, drop_of_length-le}
 use lib.Seq.{drop-cons}
 use lib.Dec.{eqb, ltb, leb}
-use borrow.Author.Tests.{lt-ltb, le-ltb, le-leb, lt-leb, eq-eqb, ne_eqb, not-true, not-false}
+use borrow.Author.Tests.{lt-ltb, le-ltb, le-leb, lt-leb, eq-eqb, ne_eqb}
+use Rattle.format.specs.declared.Kind.{Kind}
 use Rattle.format.specs.declared.Refusal.{Refusal}
-use Rattle.format.specs.Base.{pick, Out, ok, refused, refusal, refuse, need}
+use Rattle.format.specs.Base.{pick, Out, ok, refused, refusal, refuse, bind, need}
 use Rattle.format.specs.Limits.{most_samples}
-use Rattle.format.specs.Track.{leans}
+use Rattle.format.specs.Track.{leans_kind}
 use Rattle.format.specs.Layout.{from_1_to}
 use Rattle.format.specs.Writer.{need_categories}
-use Rattle.call_write.specs.Asked.{asked_for, is_allowed}
-use Rattle.call_write.specs.Checked.{first_above, allowed, check_categories, kind_out, check_out, as_checked}
+use Rattle.call_write.specs.Asked.{asked_kind}
+use Rattle.call_write.specs.Checked.{first_above, allowed, check_categories, kind_checks, record_checks, as_checked}
 use Rattle.call_write.specs.declared.Asked.{Asked}
-use Rattle.call_write.specs.declared.Checked.{Checked}
-use Rattle.call_write.specs.declared.Checked.TheVariants as checked
-use Rattle.call_write.proofs.AskedLaws.{allowed_yes, allowed_no}
+use Rattle.call_write.proofs.ReplyLaws.{categories_then}
 use Rattle.call_write.proofs.LargestLaws.{none_above}
 
 -- ---- the first category above 3
@@ -51,7 +51,7 @@ module _ {categories : List ℕ} {i : ℕ} (v : Going categories i) where
       let f : i + suc (first_above (drop (suc i) categories)) ≡ first_above categories = simp (lt-ltb (get_or categories i 0) 4 small) at (turn h) in
       record { upto = omega arith; same = rw (add-one i) (omega arith) }
 
-  pub above_end : length categories ≤ i → i ≡ first_above categories
+  pub above_end : length categories ≤ i → length categories ≡ first_above categories
   unfolding first_above
   above_end h =
       let e : drop i categories ≡ [] = drop_of_length-le categories h in
@@ -86,23 +86,23 @@ above_passes i (c ∷ categories) next h = go (ltb c 4) h (above_passes (suc i) 
     go true h later = later (omega arith)
     go false h later = absurd (omega arith)
 
-module _ (a : Asked) (categories anchor : List ℕ) (i : ℕ) (f : i ≡ first_above categories) where
-  pub refused_category : i < length categories → {why : Refusal} → why ≡ refusal 20 i → checked.Refused why ≡ as_checked (check_categories a categories anchor)
+module _ {A : Type 0} (a : A) (categories anchor : List ℕ) (i : ℕ) (f : i ≡ first_above categories) where
+  pub refused_category : i < length categories → {why : Refusal} → why ≡ refusal 20 i → Err why ≡ as_checked (check_categories a categories anchor)
   refused_category h w =
       let n : check_categories a categories anchor ≡ refuse 20 (0 + first_above categories)
       = above_stops 0 categories (need_categories 0 anchor (ok a [])) (omega arith) in
-      simp (w, n) (ap (λ (p : ℕ). checked.Refused (refusal 20 p)) (f ∙ sym (zero-add (first_above categories))))
+      simp (w, n) (ap (λ (p : ℕ). Err (refusal 20 p)) (f ∙ sym (zero-add (first_above categories))))
 
   module _ (h : length categories ≤ i) (j : ℕ) (g : j ≡ first_above anchor) where
     passed : check_categories a categories anchor ≡ need_categories 0 anchor (ok a [])
     passed = above_passes 0 categories (need_categories 0 anchor (ok a [])) (omega arith)
 
-    pub refused_lent : j < length anchor → {why : Refusal} → why ≡ refusal 20 j → checked.Refused why ≡ as_checked (check_categories a categories anchor)
+    pub refused_lent : j < length anchor → {why : Refusal} → why ≡ refusal 20 j → Err why ≡ as_checked (check_categories a categories anchor)
     refused_lent k w =
         let n : check_categories a categories anchor ≡ refuse 20 (0 + first_above anchor) = passed ∙ above_stops 0 anchor (ok a []) (omega arith) in
-        simp (w, n) (ap (λ (p : ℕ). checked.Refused (refusal 20 p)) (g ∙ sym (zero-add (first_above anchor))))
+        simp (w, n) (ap (λ (p : ℕ). Err (refusal 20 p)) (g ∙ sym (zero-add (first_above anchor))))
 
-    pub all_categories : length anchor ≤ j → checked.Allowed a ≡ as_checked (check_categories a categories anchor)
+    pub all_categories : length anchor ≤ j → Ok a ≡ as_checked (check_categories a categories anchor)
     all_categories k =
         let n : check_categories a categories anchor ≡ ok a [] = passed ∙ above_passes 0 anchor (ok a []) (omega arith) in
         simp n
@@ -111,72 +111,88 @@ pub ruleset category_laws = (refused_category, refused_lent, all_categories)
 
 -- ---- one check after another
 
-module _ (categories : List ℕ) (number code : ℕ) (anchor : List ℕ) where
-  pub refused_none : length categories ≡ 0 → {why : Refusal} → why ≡ refusal 4 0 → checked.Refused why ≡ as_checked (kind_out categories number code anchor)
-  unfolding kind_out
+module _ (categories : List ℕ) (k : Kind) (code : ℕ) (anchor : List ℕ) where
+  pub refused_none : length categories ≡ 0 → {why : Refusal} → why ≡ refusal 4 0 → Err why ≡ as_checked (kind_checks categories k code anchor)
+  unfolding kind_checks
   refused_none z w = let h : leb 1 (length categories) ≡ false = lt-leb 1 (length categories) (omega arith) in simp (w, h)
 
   pub refused_many : most_samples < length categories → {why : Refusal} → why ≡ refusal 4 0
-      → checked.Refused why ≡ as_checked (kind_out categories number code anchor)
-  unfolding kind_out
+      → Err why ≡ as_checked (kind_checks categories k code anchor)
+  unfolding kind_checks
   refused_many m w =
       let h : leb 1 (length categories) ≡ true = le-leb 1 (length categories) (omega arith) in
-      let k : leb (length categories) most_samples ≡ false = lt-leb (length categories) most_samples m in
-      simp (w, h, k)
+      let i : leb (length categories) most_samples ≡ false = lt-leb (length categories) most_samples m in
+      simp (w, h, i)
 
   module _ (some : length categories ≡ 0 → ⊥) (few : length categories ≤ most_samples) where
     sized : from_1_to most_samples (length categories) ≡ true
     sized =
         let h : leb 1 (length categories) ≡ true = le-leb 1 (length categories) (omega arith) in
-        let k : leb (length categories) most_samples ≡ true = le-leb (length categories) most_samples few in
-        simp (h, k)
+        let i : leb (length categories) most_samples ≡ true = le-leb (length categories) most_samples few in
+        simp (h, i)
 
-    module _ (a : Asked) (e : a ≡ asked_for number code) (may : Bool) (m : may ≡ is_allowed a) where
-      pub refused_kind : not may ≡ true → {why : Refusal} → why ≡ refusal 19 0 → checked.Refused why ≡ as_checked (kind_out categories number code anchor)
-      unfolding kind_out
-      refused_kind q w =
-          let n : allowed (asked_for number code) ≡ refuse 19 0 = rw (← e) (allowed_no a (sym m ∙ not-true may q)) in
-          simp (w, sized, n)
+    module _ (o : Option Asked) (e : o ≡ asked_kind k code) where
+      pub refused_kind : o ≡ None → {why : Refusal} → why ≡ refusal 19 0 → Err why ≡ as_checked (kind_checks categories k code anchor)
+      unfolding kind_checks
+      refused_kind q w = let n : allowed (asked_kind k code) ≡ refuse 19 0 = rw (← e, q) in simp (w, sized, n)
 
-      module _ (q : not may ≡ false) (size : ℕ) (s : size ≡ pick (leans number) (length categories) 0) where
-        yes : allowed (asked_for number code) ≡ ok a []
-        yes = rw (← e) (allowed_yes a (sym m ∙ not-false may q))
+      module _ (a : Asked) (q : o ≡ Some a) (size : ℕ) (s : size ≡ pick (leans_kind k) (length categories) 0) where
+        yes : allowed (asked_kind k code) ≡ ok a []
+        yes = rw (← e, q)
 
         pub refused_anchor : (length anchor ≡ size → ⊥) → {why : Refusal} → why ≡ refusal 10 0
-            → checked.Refused why ≡ as_checked (kind_out categories number code anchor)
-        unfolding kind_out
+            → Err why ≡ as_checked (kind_checks categories k code anchor)
+        unfolding kind_checks
         refused_anchor d w =
-            let n : eqb (length anchor) (pick (leans number) (length categories) 0) ≡ false = rw (← s) (ne_eqb (length anchor) size d) in
+            let n : eqb (length anchor) (pick (leans_kind k) (length categories) 0) ≡ false = rw (← s) (ne_eqb (length anchor) size d) in
             simp (w, sized, yes, n)
 
         module _ (l : length anchor ≡ size) where
-          there : eqb (length anchor) (pick (leans number) (length categories) 0) ≡ true
+          there : eqb (length anchor) (pick (leans_kind k) (length categories) 0) ≡ true
           there = rw (← s) (eq-eqb (length anchor) size l)
 
-          pub kind_passed : checked.Allowed a ≡ as_checked (kind_out categories number code anchor)
-          unfolding kind_out
+          pub kind_passed : Ok a ≡ as_checked (kind_checks categories k code anchor)
+          unfolding kind_checks
           kind_passed = simp (sized, yes, there)
 
 pub ruleset kind_laws = (refused_none, refused_many, refused_kind, refused_anchor, kind_passed)
 
 -- ---- what the checks answered
 
-pub stopped : (out : Out Asked) (why : Refusal) → as_checked out ≡ checked.Refused why → out ≡ refused why
+pub stopped : {A : Type 0} (out : Out A) (why : Refusal) → as_checked out ≡ Err why → out ≡ refused why
 stopped (ok b left) why e = let z : ◌≡◌ {A = ℕ} 0 1 = cc in absurd (omega arith)
 stopped (refused other) why e = cc
 
-pub passed_as : (out : Out Asked) (a : Asked) → as_checked out ≡ checked.Allowed a → (left : List ℕ) × (out ≡ ok a left)
+pub passed_as : {A : Type 0} (out : Out A) (a : A) → as_checked out ≡ Ok a → (left : List ℕ) × (out ≡ ok a left)
 passed_as (ok b left) a e = (left, cc)
 passed_as (refused why) a e = let z : ◌≡◌ {A = ℕ} 0 1 = cc in absurd (omega arith)
 
-module _ (categories : List ℕ) (number code : ℕ) (anchor : List ℕ) (r : Checked) (e : r ≡ as_checked (kind_out categories number code anchor)) where
-  pub record_refused : (why : Refusal) → r ≡ checked.Refused why → checked.Refused why ≡ as_checked (check_out categories number code anchor)
-  unfolding check_out
-  record_refused why q = simp (stopped (kind_out categories number code anchor) why (sym e ∙ q))
+-- a check of the categories alone, and what is asked for after it
+module _ (a : Asked) (categories anchor : List ℕ) (s : Result ⊤ Refusal) (n : s ≡ as_checked (check_categories tt categories anchor)) where
+  alone : check_categories a categories anchor ≡ bind (check_categories {A = ⊤} tt categories anchor) (λ u left. ok a [])
+  alone = categories_then {A = ⊤} tt categories anchor (λ u left. ok a [])
 
-  pub record_checked : (a : Asked) → r ≡ checked.Allowed a → (s : Checked) → s ≡ as_checked (check_categories a categories anchor)
-      → s ≡ as_checked (check_out categories number code anchor)
-  unfolding check_out
-  record_checked a q s n = n ∙ simp (passed_as (kind_out categories number code anchor) a (sym e ∙ q)).1
+  pub categories_stopped : (why : Refusal) → s ≡ Err why → check_categories a categories anchor ≡ refused why
+  categories_stopped why o = alone ∙ simp (stopped (check_categories tt categories anchor) why (sym n ∙ o))
 
-pub ruleset check_laws = (record_refused, record_checked)
+  pub categories_passed : (u : ⊤) → s ≡ Ok u → check_categories a categories anchor ≡ ok a []
+  categories_passed u o = alone ∙ simp (passed_as (check_categories tt categories anchor) u (sym n ∙ o)).1
+
+module _ (categories : List ℕ) (k : Kind) (code : ℕ) (anchor : List ℕ)
+    (r : Result Asked Refusal) (e : r ≡ as_checked (kind_checks categories k code anchor)) where
+  pub record_refused : (why : Refusal) → r ≡ Err why → Err why ≡ as_checked (record_checks categories k code anchor)
+  unfolding record_checks
+  record_refused why q = simp (stopped (kind_checks categories k code anchor) why (sym e ∙ q))
+
+  module _ (a : Asked) (q : r ≡ Ok a) (s : Result ⊤ Refusal) (n : s ≡ as_checked (check_categories tt categories anchor)) where
+    pub record_category : (why : Refusal) → s ≡ Err why → Err why ≡ as_checked (record_checks categories k code anchor)
+    unfolding record_checks
+    record_category why o =
+        simp ((passed_as (kind_checks categories k code anchor) a (sym e ∙ q)).1, categories_stopped a categories anchor s n why o)
+
+    pub record_checked : (u : ⊤) → s ≡ Ok u → Ok a ≡ as_checked (record_checks categories k code anchor)
+    unfolding record_checks
+    record_checked u o =
+        simp ((passed_as (kind_checks categories k code anchor) a (sym e ∙ q)).1, categories_passed a categories anchor s n u o)
+
+pub ruleset check_laws = (record_refused, record_category, record_checked)

@@ -1,6 +1,7 @@
 -- The call `write_phased_record`: its checks, its measure and its bytes, those of the main track and then those of the phase track, are the format's own.
 -- Assumes nothing.
-use mathlib.Core.Path.{◌≡◌, refl, sym, ap, ◌∙◌, subst}
+use Rattle.std.specs.Prelude.{Result, Ok, Err}
+use mathlib.Core.Path.{◌≡◌, sym, ap, ◌∙◌, subst}
 use Prim.Native.Nat.{ℕ, suc, ◌+◌, ◌≤◌, ◌<◌}
 use native.Mathlib.Omega.{arith}
 use mathlib.Core.List.{List, [], ◌∷◌, ◌++◌}
@@ -9,11 +10,12 @@ use lib.Dec.{eqb}
 use mir.Syntax.{w64}
 use mir.Val.{Fits}
 use borrow.Author.Tests.{eqb-true}
+use Rattle.format.specs.declared.Kind.{Kind}
 use Rattle.format.specs.declared.Refusal.{Refusal}
-use Rattle.format.specs.declared.WriteReply.TheVariants as write
 use Rattle.format.specs.Base.{Out, ok, refusal, bind, need}
 use Rattle.format.specs.Limits.{most_samples}
 use Rattle.format.specs.Phase.{first_of, rest_of, phase_track_bytes}
+use Rattle.format.specs.Track.{kind}
 use Rattle.format.specs.Writer.{need_categories, within, phase_allowed, need_phases, phases_for, write_phased}
 use Rattle.format.specs.Reply.{write_left, write_phased_call}
 use Rattle.format.proofs.Rules.{Holds, by_need, by_bind, need_then}
@@ -23,24 +25,15 @@ use Rattle.write_bytes.proofs.WrittenLaws.{wrote_both, wrote_length}
 use Rattle.write_phase.specs.Calls.{TrackSizeOf}
 use Rattle.write_phase.specs.declared.TrackSize.{TrackSize}
 use Rattle.call_write.specs.Asked.{asked_bytes, AskedFits, RecordSize}
-use Rattle.call_write.specs.Checked.{check_categories, check_phases, kind_out, phased_out, as_checked}
+use Rattle.call_write.specs.Checked.{check_categories, check_phases, kind_out, phased_checks, phased_out, as_checked}
 use Rattle.call_write.specs.declared.Asked.{Asked}
-use Rattle.call_write.specs.declared.Checked.{Checked}
-use Rattle.call_write.specs.declared.Checked.TheVariants as checked
 use Rattle.call_write.proofs.CheckLaws.{stopped, passed_as}
+use Rattle.call_write.proofs.PhasedCheckLaws.{phases_bind}
 use Rattle.call_write.proofs.SizeLaws.{record_most}
 use Rattle.call_write.proofs.ReplyLaws.{bind_alike, bind_bind, categories_then, kind_then, KindFits, kind_fits, Passed, categories_fit}
 use Rattle.call_write.proofs.ReplyLaws.{bytes_fit, reply_refused, reply_short, reply_written}
 
 -- ---- 22
-
-phases_bind : {A B : Type 0} (i : ℕ) (categories phases : List ℕ) (m : Out A) (f : A → List ℕ → Out B)
-    → bind (need_phases i categories phases m) f ≡ need_phases i categories phases (bind m f)
-unfolding need_phases
-phases_bind i [] phases m f = refl
-phases_bind i (c ∷ categories) phases m f =
-    need_then (phase_allowed c (first_of phases)) 22 i _ f
-    ∙ ap (need (phase_allowed c (first_of phases)) 22 i) (phases_bind (suc i) categories (rest_of phases) m f)
 
 by_phases : {A : Type 0} (Q : A → List ℕ → Type 0) (i : ℕ) (categories phases : List ℕ) (next : Out A) → Holds Q next
     → Holds Q (need_phases i categories phases next)
@@ -80,7 +73,7 @@ module _ (categories phases : List ℕ) (number code : ℕ) (anchor : List ℕ) 
 
   pub phased_is : (room : ℕ) → write_phased categories phases number code anchor room
       ≡ bind (phased_out categories phases number code anchor) (λ a left. within room (asked_bytes a anchor categories ++ track categories phases))
-  unfolding write_phased phased_out
+  unfolding write_phased phased_checks
   phased_is room =
       kind_then categories number code anchor
       (λ (bytes : List ℕ).
@@ -91,7 +84,7 @@ module _ (categories phases : List ℕ) (number code : ℕ) (anchor : List ℕ) 
       ∙ sym (bind_bind (kind_out categories number code anchor) _ _)
 
   phased_passes : Holds (PhasedPassed categories phases anchor) (phased_out categories phases number code anchor)
-  unfolding phased_out
+  unfolding phased_checks
   phased_passes =
       by_bind (KindFits categories anchor) _ (kind_out categories number code anchor) _ (kind_fits categories number code anchor) (λ a left k.
       by_need _ (eqb (length phases) (length categories)) _ _ _ (λ same.
@@ -107,9 +100,10 @@ module _ (categories phases : List ℕ) (number code : ℕ) (anchor : List ℕ) 
       (phased_is room) phased_passes
       (λ a left p. omega (arith, p.main.some, length-append (asked_bytes a anchor categories) (track categories phases)))
 
-  module _ (r : Checked) (a : Asked) (e : r ≡ as_checked (phased_out categories phases number code anchor)) (q : r ≡ checked.Allowed a) where
+  module _ (k : Kind) (n : k ≡ kind number) (r : Result Asked Refusal) (a : Asked)
+      (e : r ≡ as_checked (phased_checks categories phases k code anchor)) (q : r ≡ Ok a) where
     accepted : (left : List ℕ) × (checks ≡ ok a left)
-    accepted = passed_as checks a (sym e ∙ q)
+    accepted = passed_as checks a (sym (rw n at e) ∙ q)
 
     passed : PhasedPassed categories phases anchor a accepted.0
     passed = subst (Holds (PhasedPassed categories phases anchor)) accepted.1 phased_passes
@@ -139,22 +133,26 @@ module _ (categories phases : List ℕ) (number code : ℕ) (anchor output : Lis
   abbrev is : write_phased categories phases number code anchor (length output) ≡ bind out (λ a left. within (length output) (bytes a))
   is = phased_is categories phases number code anchor (length output)
 
-  module _ (r : Checked) (e : r ≡ as_checked (phased_out categories phases number code anchor)) where
-    pub call_refused : (why : Refusal) → r ≡ checked.Refused why
-        → write_left (write.Refused why) output ≡ write_phased_call categories phases number code anchor output
-    unfolding write_phased_call
-    call_refused why q = reply_refused out bytes output _ is why (stopped out why (sym e ∙ q))
+  module _ (k : Kind) (n : k ≡ kind number) (r : Result Asked Refusal)
+      (e : r ≡ as_checked (phased_checks categories phases k code anchor)) where
+    answered : r ≡ as_checked out
+    answered = rw n at e
 
-    module _ (a : Asked) (q : r ≡ checked.Allowed a) (size : ListSize) (s : RecordSize a anchor categories size)
+    pub call_refused : (why : Refusal) → r ≡ Err why
+        → write_left (Err why) output ≡ write_phased_call categories phases number code anchor output
+    unfolding write_phased_call
+    call_refused why q = reply_refused out bytes output _ is why (stopped out why (sym answered ∙ q))
+
+    module _ (a : Asked) (q : r ≡ Ok a) (size : ListSize) (s : RecordSize a anchor categories size)
         (t : TrackSize) (z : TrackSizeOf categories phases t) where
       allowed_is : (left : List ℕ) × (out ≡ ok a left)
-      allowed_is = passed_as out a (sym e ∙ q)
+      allowed_is = passed_as out a (sym answered ∙ q)
 
       sizes : length (bytes a) ≡ size.bytes + t.bytes
       sizes = omega (arith, s.bytes_are, z.bytes_are, length-append (asked_bytes a anchor categories) (track categories phases))
 
       pub call_short : length output < size.bytes + t.bytes → {why : Refusal} → why ≡ refusal 10 0
-          → write_left (write.Refused why) output ≡ write_phased_call categories phases number code anchor output
+          → write_left (Err why) output ≡ write_phased_call categories phases number code anchor output
       unfolding write_phased_call
       call_short h w = rw w (reply_short out bytes output _ is a allowed_is.0 allowed_is.1 (omega (arith, sizes)))
 
@@ -167,7 +165,7 @@ module _ (categories phases : List ℕ) (number code : ℕ) (anchor output : Lis
           track_room = omega (arith, w.place, wrote_length w, s.bytes_are, z.bytes_are)
 
           pub call_written : (count : ℕ) (after : List ℕ) → Wrote mid at (phase_track_bytes (phases_for categories phases)) count after
-              → write_left (write.Count count) after ≡ write_phased_call categories phases number code anchor output
+              → write_left (Ok count) after ≡ write_phased_call categories phases number code anchor output
           unfolding write_phased_call
           call_written count after v =
               reply_written out bytes output _ is a allowed_is.0 allowed_is.1 (omega (arith, sizes)) count after (wrote_both w v)

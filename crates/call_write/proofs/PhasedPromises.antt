@@ -1,12 +1,12 @@
 -- What the phased writer's contract promises its caller: DEMAND 2 for what it wrote, nothing else changed, and which numbers it refuses with.
 -- Assumes nothing.
+use Rattle.std.specs.Prelude.{Ok, Err}
 use mathlib.Core.Path.{◌≡◌, ap, ◌∙◌, subst}
 use Prim.Native.Nat.{ℕ, ◌+◌, ◌≤◌}
 use native.Mathlib.Omega.{arith}
 use mathlib.Core.List.{List, []}
 use lib.ListN.{length, take, drop, length-append, length-drop}
 use Rattle.format.specs.declared.Refusal.{Refusal}
-use Rattle.format.specs.declared.WriteReply.TheVariants as write
 use Rattle.format.specs.Base.{Out, ok, map_out}
 use Rattle.format.specs.Body.{read_body, body_reading}
 use Rattle.format.specs.Writer.{write_phased}
@@ -24,7 +24,7 @@ module _ (categories phases : List ℕ) (number code : ℕ) (anchor output : Lis
 
   -- ---- a count was replied
 
-  module _ (count : ℕ) (after : List ℕ) (e : AllowsPhased categories phases number code anchor output (write.Count count) after) where
+  module _ (count : ℕ) (after : List ℕ) (e : AllowsPhased categories phases number code anchor output (Ok count) after) where
     wrote : Accepted out output count after
     wrote = allows_phased_count categories phases number code anchor output count after e
 
@@ -62,7 +62,7 @@ module _ (categories phases : List ℕ) (number code : ℕ) (anchor output : Lis
 
   -- ---- a refusal was replied
 
-  module _ (why : Refusal) (after : List ℕ) (e : AllowsPhased categories phases number code anchor output (write.Refused why) after) where
+  module _ (why : Refusal) (after : List ℕ) (e : AllowsPhased categories phases number code anchor output (Err why) after) where
     stopped : Refused out output why after
     stopped = allows_phased_refused categories phases number code anchor output why after e
 

@@ -1,5 +1,6 @@
 -- What the writer's contract promises its caller: DEMAND 2 for what it wrote, nothing else changed, and which numbers it refuses with.
 -- Assumes nothing.
+use Rattle.std.specs.Prelude.{Ok, Err}
 use mathlib.Core.Path.{◌≡◌, ap, ◌∙◌, subst}
 use Prim.Native.Nat.{ℕ, ◌≤◌}
 use native.Mathlib.Omega.{arith}
@@ -8,7 +9,6 @@ use mathlib.Core.List.{List, [], ◌++◌}
 use lib.ListN.{length, take, drop, length-append, length-drop}
 use lib.Seq.{take-append_seam, drop-append_seam}
 use Rattle.format.specs.declared.Refusal.{Refusal}
-use Rattle.format.specs.declared.WriteReply.TheVariants as write
 use Rattle.format.specs.Base.{Bytes, Out, ok, map_out}
 use Rattle.format.specs.Limits.{most_samples}
 use Rattle.format.specs.Track.{track_bytes}
@@ -38,7 +38,7 @@ module _ (categories : List ℕ) (number code : ℕ) (anchor output : List ℕ) 
 
   -- ---- a count was replied
 
-  module _ (count : ℕ) (after : List ℕ) (e : Allows categories number code anchor output (write.Count count) after) where
+  module _ (count : ℕ) (after : List ℕ) (e : Allows categories number code anchor output (Ok count) after) where
     wrote : Accepted out output count after
     wrote = allows_count categories number code anchor output count after e
 
@@ -75,7 +75,7 @@ module _ (categories : List ℕ) (number code : ℕ) (anchor output : List ℕ) 
 
   -- ---- a refusal was replied
 
-  module _ (why : Refusal) (after : List ℕ) (e : Allows categories number code anchor output (write.Refused why) after) where
+  module _ (why : Refusal) (after : List ℕ) (e : Allows categories number code anchor output (Err why) after) where
     stopped : Refused out output why after
     stopped = allows_refused categories number code anchor output why after e
 
@@ -91,7 +91,7 @@ module _ (categories : List ℕ) (number code : ℕ) (anchor output : List ℕ) 
 -- samples it also lists. This is what the call leaves of it, in an output that has room.
 pub rewritten : (end N : ℕ) (anchor : List ℕ) (type : ℕ) (bs : List ℕ) (body : Body) (output : List ℕ) → from_1_to most_samples N ≡ true → Bytes bs
     → (type_leans type ≡ true → IsRow N anchor) → read_body end N anchor type bs ≡ ok body [] → length (track_bytes N (cleared body.main)) ≤ length output
-    → write_left (write.Count (length (track_bytes N (cleared body.main))))
+    → write_left (Ok (length (track_bytes N (cleared body.main))))
     (track_bytes N (cleared body.main) ++ drop (length (track_bytes N (cleared body.main))) output)
     ≡ write_call (body_categories N anchor body) (kind_of type) (track_code body.main) (lent_for body.main anchor) output
 unfolding write_call

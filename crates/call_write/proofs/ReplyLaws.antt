@@ -1,16 +1,16 @@
 -- What both calls share: the format's writer is the checks, then the bytes if there is room; and the reply.
 -- Assumes nothing.
+use Rattle.std.specs.Prelude.{Option, Some, None, Ok, Err}
 use mathlib.Core.Path.{◌≡◌, refl, sym, ap, ◌∙◌, subst}
 use Prim.Native.Nat.{ℕ, suc, ◌≤◌, ◌<◌}
 use native.Mathlib.Omega.{arith}
 use native.Mathlib.Nat.{zero-add}
-use mathlib.Core.Bool.{Bool, true}
+use mathlib.Core.Bool.{Bool}
 use mathlib.Core.List.{List, [], ◌∷◌}
 use lib.ListN.{length, length-append}
 use lib.Dec.{eqb, ltb, leb}
 use borrow.Author.Tests.{ltb-true, leb-true, le-leb, lt-leb, eqb-true}
 use Rattle.format.specs.declared.Refusal.{Refusal}
-use Rattle.format.specs.declared.WriteReply.TheVariants as write
 use Rattle.format.specs.Base.{pick, Below, Out, ok, refused, refusal, bind, map_out, need}
 use Rattle.format.specs.Limits.{most_samples}
 use Rattle.format.specs.Varint.{varint_bytes}
@@ -27,8 +27,8 @@ use Rattle.format.proofs.OffsetsLaws.{from_1_to_most, from_1_to_positive}
 use Rattle.write_parts.specs.Rows.{listed_entries}
 use Rattle.write_bytes.specs.Written.{Wrote}
 use Rattle.write_bytes.proofs.WrittenLaws.{wrote_front}
-use Rattle.call_write.specs.Asked.{asked_for, asked_bytes, is_allowed, HasBase, AskedFits}
-use Rattle.call_write.specs.Checked.{allowed, check_categories, kind_out}
+use Rattle.call_write.specs.Asked.{asked_for, asked_bytes, HasBase, AskedFits}
+use Rattle.call_write.specs.Checked.{allowed, check_categories, kind_checks, kind_out}
 use Rattle.call_write.specs.declared.Asked.{Asked}
 use Rattle.call_write.specs.declared.Asked.TheVariants as asked
 use Rattle.call_write.proofs.AskedLaws.{track_asked, asked_has_base}
@@ -55,7 +55,7 @@ categories_bind i [] m f = refl
 categories_bind i (c ∷ categories) m f = need_then (ltb c 4) 20 i _ f ∙ ap (need (ltb c 4) 20 i) (categories_bind (suc i) categories m f)
 
 -- 20, then what comes next
-pub categories_then : {B : Type 0} (a : Asked) (categories anchor : List ℕ) (f : Asked → List ℕ → Out B)
+pub categories_then : {A B : Type 0} (a : A) (categories anchor : List ℕ) (f : A → List ℕ → Out B)
     → need_categories 0 categories (need_categories 0 anchor (f a [])) ≡ bind (check_categories a categories anchor) f
 categories_then a categories anchor f =
     sym (categories_bind 0 categories _ f ∙ ap (need_categories 0 categories) (categories_bind 0 anchor (ok a []) f))
@@ -69,17 +69,15 @@ module _ {B : Type 0} (categories : List ℕ) (number code : ℕ) (anchor : List
   abbrev others : List ℕ → Out B
   others bytes = need there 10 0 (f bytes)
 
-  allowed_then : (a : Asked)
-      → bind (bind (allowed a) (λ b left. ok (asked_bytes b anchor categories) [])) (λ bytes left. others bytes)
-      ≡ bind (bind (allowed a) (λ b left. need there 10 0 (ok b []))) (λ b left. f (asked_bytes b anchor categories))
-  allowed_then asked.Array = sym (need_then there 10 0 _ _)
-  allowed_then (asked.Pair p) = sym (need_then there 10 0 _ _)
-  allowed_then (asked.List b) = sym (need_then there 10 0 _ _)
-  allowed_then asked.NotAllowed = refl
+  allowed_then : (o : Option Asked)
+      → bind (bind (allowed o) (λ b left. ok (asked_bytes b anchor categories) [])) (λ bytes left. others bytes)
+      ≡ bind (bind (allowed o) (λ b left. need there 10 0 (ok b []))) (λ b left. f (asked_bytes b anchor categories))
+  allowed_then (Some a) = sym (need_then there 10 0 _ _)
+  allowed_then None = refl
 
   pub kind_then : with_track categories number code anchor (λ (track : Track). f (track_bytes (length categories) track))
       ≡ bind (kind_out categories number code anchor) (λ a left. f (asked_bytes a anchor categories))
-  unfolding kind_out
+  unfolding kind_checks
   kind_then =
       ap (need (from_1_to most_samples (length categories)) 4 0)
       (bind_map (track_bytes (length categories)) (kind_track (kind number) code anchor categories) others
@@ -93,27 +91,19 @@ pub record KindFits (categories anchor : List ℕ) (a : Asked) (left : List ℕ)
   pub has_base : HasBase a anchor categories
   pub some : 1 ≤ length categories
   pub few : length categories ≤ most_samples
-  pub may : is_allowed a ≡ true
 
 module _ (categories : List ℕ) (number code : ℕ) (anchor : List ℕ) where
-  allowed_is : (a : Asked) → Holds (λ (b : Asked) (left : List ℕ). (b ≡ a) × (is_allowed b ≡ true)) (allowed a)
-  allowed_is asked.Array = (refl, refl)
-  allowed_is (asked.Pair p) = (refl, refl)
-  allowed_is (asked.List b) = (refl, refl)
-  allowed_is asked.NotAllowed = tt
-
   pub kind_fits : Holds (KindFits categories anchor) (kind_out categories number code anchor)
-  unfolding kind_out
+  unfolding kind_checks
   kind_fits =
       by_need _ (from_1_to most_samples (length categories)) _ _ _ (λ sized.
-      by_bind (λ (b : Asked) (left : List ℕ). (b ≡ asked_for number code) × (is_allowed b ≡ true)) _ (allowed (asked_for number code)) _
-      (allowed_is (asked_for number code)) (λ a left is.
+      by_bind (λ (b : Asked) (left : List ℕ). length anchor ≡ pick (leans number) (length categories) 0 → HasBase b anchor categories) _
+      (allowed (asked_for number code)) _ (asked_has_base anchor categories number code) (λ a left based.
       by_need _ (eqb (length anchor) (pick (leans number) (length categories) 0)) _ _ _ (λ there.
       record {
-        has_base = rw is.0 (asked_has_base anchor categories number code (eqb-true (length anchor) _ there));
+        has_base = based (eqb-true (length anchor) _ there);
         some = from_1_to_positive most_samples (length categories) sized;
         few = from_1_to_most most_samples (length categories) sized;
-        may = is.1;
       })))
 
 by_categories : {A : Type 0} (Q : A → List ℕ → Type 0) (i : ℕ) (categories : List ℕ) (next : Out A) → (Below 4 categories → Holds Q next)
@@ -122,13 +112,12 @@ unfolding need_categories
 by_categories Q i [] next h = h tt
 by_categories Q i (c ∷ categories) next h = by_need Q (ltb c 4) _ _ _ (λ t. by_categories Q (suc i) categories next (λ g. h (ltb-true c 4 t, g)))
 
-record_some : (a : Asked) (anchor categories : List ℕ) → is_allowed a ≡ true → 1 ≤ length categories → 1 ≤ length (asked_bytes a anchor categories)
-record_some asked.Array anchor categories t h = omega (arith, packed_length two (length categories) categories refl)
-record_some (asked.Pair p) anchor categories t h = omega arith
-record_some (asked.List b) anchor categories t h =
+record_some : (a : Asked) (anchor categories : List ℕ) → 1 ≤ length categories → 1 ≤ length (asked_bytes a anchor categories)
+record_some asked.Array anchor categories h = omega (arith, packed_length two (length categories) categories refl)
+record_some (asked.Pair p) anchor categories h = omega arith
+record_some (asked.List b) anchor categories h =
     let es : List Entry = listed_entries b anchor categories in
     omega (arith, varint_length (length es), length-append (varint_bytes (length es)) (list_parts (number_width (length categories)) es))
-record_some asked.NotAllowed anchor categories t h = let z : ◌≡◌ {A = ℕ} 0 1 = cc in absurd (omega arith)
 
 -- a record that passed the checks of both calls: it fits, and has a byte at least
 pub record Passed (categories anchor : List ℕ) (a : Asked) (left : List ℕ) : Type 0 where
@@ -142,7 +131,7 @@ categories_fit a categories anchor left k =
     by_categories _ 0 anchor _ (λ lent.
     record {
       fits = record { has_base = k.has_base; few = k.few; small = small };
-      some = record_some a anchor categories k.may k.some;
+      some = record_some a anchor categories k.some;
     }))
 
 -- ---- the reply: `out` is the checks, then the bytes if there is room
@@ -157,15 +146,15 @@ bytes_fit Q checks bytes room out e h some =
 
 module _ (checks : Out Asked) (bytes : Asked → List ℕ) (output : List ℕ) (out : Out (List ℕ))
     (is : out ≡ bind checks (λ a left. within (length output) (bytes a))) where
-  pub reply_refused : (why : Refusal) → checks ≡ refused why → write_left (write.Refused why) output ≡ written out output
+  pub reply_refused : (why : Refusal) → checks ≡ refused why → write_left (Err why) output ≡ written out output
   reply_refused why e = simp (is, e)
 
   module _ (a : Asked) (left : List ℕ) (e : checks ≡ ok a left) where
-    pub reply_short : length output < length (bytes a) → write_left (write.Refused (refusal 10 0)) output ≡ written out output
+    pub reply_short : length output < length (bytes a) → write_left (Err (refusal 10 0)) output ≡ written out output
     reply_short h = simp (is, e, lt-leb (length (bytes a)) (length output) h)
 
     pub reply_written : length (bytes a) ≤ length output → (count : ℕ) (after : List ℕ) → Wrote output 0 (bytes a) count after
-        → write_left (write.Count count) after ≡ written out output
+        → write_left (Ok count) after ≡ written out output
     reply_written h count after w =
         let n : count ≡ length (bytes a) = w.place ∙ zero-add (length (bytes a)) in
         rw (n, wrote_front h w) (simp (is, e, le-leb (length (bytes a)) (length output) h))

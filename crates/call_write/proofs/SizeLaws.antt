@@ -17,14 +17,14 @@ use Rattle.write_bytes.specs.Arrays.{width, numbers, array_bytes}
 use Rattle.write_bytes.specs.declared.Array.{Array}
 use Rattle.write_bytes.specs.declared.Array.TheVariants as arrays
 use Rattle.write_bytes.proofs.ArrayLaws.{numbers_length}
-use Rattle.write_bytes.proofs.WrittenLaws.{wrote_both, wrote_length, wrote_nothing}
+use Rattle.write_bytes.proofs.WrittenLaws.{wrote_both, wrote_length}
 use Rattle.write_parts.specs.Rows.{base_row, listed_entries, RowsFit}
 use Rattle.write_parts.specs.declared.Base.{Base}
 use Rattle.write_parts.specs.declared.Base.TheVariants as base
 use Rattle.write_list.specs.Sizes.{SizeOf}
 use Rattle.write_list.specs.declared.ListSize.{ListSize}
 use Rattle.write_list.proofs.ListLaws.{list_most}
-use Rattle.call_write.specs.Asked.{asked_bytes, asked_count, AskedFits, RecordSize}
+use Rattle.call_write.specs.Asked.{asked_bytes, AskedFits, RecordSize}
 use Rattle.call_write.specs.declared.Asked.{Asked}
 use Rattle.call_write.specs.declared.Asked.TheVariants as asked
 
@@ -88,7 +88,6 @@ record_most (asked.Pair p) anchor categories f =
     )
 record_most (asked.List b) anchor categories f =
     omega (arith, list_most (length categories) b anchor categories (rows_list (asked.List b) b anchor categories refl f))
-record_most asked.NotAllowed anchor categories f = omega arith
 
 pub ruleset size_laws = (rows_list, rows_pair, size_array, size_list, size_pair, pair_fits)
 
@@ -119,36 +118,3 @@ module _ (p : Pair) (anchor categories to : List ℕ) (fit : length (asked_bytes
       pair_length = wrote_length pair_written
 
 pub ruleset pair_laws = (rows_pair, room_bits, room_list, pair_written, pair_length)
-
--- ---- a record from the output's start
-
-module _ (a : Asked) (anchor categories : List ℕ) where
-  pub room_array : (len : ℕ) → a ≡ asked.Array → length (asked_bytes a anchor categories) ≤ len → 0 + length (array_bytes arrays.Categories categories) ≤ len
-  room_array len q h = let k : length (array_bytes arrays.Categories categories) ≤ len = rw q at h in omega arith
-
-  pub room_of_list : (len : ℕ) (b : Base) → a ≡ asked.List b → length (asked_bytes a anchor categories) ≤ len
-      → 0 + length (bytes_of_list b anchor categories) ≤ len
-  room_of_list len b q h = let k : length (bytes_of_list b anchor categories) ≤ len = rw q at h in omega arith
-
-  pub count_of_list : (count : ℕ) (b : Base) → a ≡ asked.List b → count ≡ asked_count a anchor categories → count ≡ length (listed_entries b anchor categories)
-  count_of_list count b q e = rw q at e
-
-  pub nothing_written : (to : List ℕ) → a ≡ asked.NotAllowed → Wrote to 0 (asked_bytes a anchor categories) 0 to
-  nothing_written to q = rw q (wrote_nothing to 0)
-
-  -- what is asked for, under the name that a match gives it
-  module _ (b : Asked) (q : a ≡ b) where
-    pub fits_as : AskedFits a anchor categories → AskedFits b anchor categories
-    fits_as f = rw q at f
-
-    pub count_as : (count : ℕ) → count ≡ asked_count a anchor categories → count ≡ asked_count b anchor categories
-    count_as count e = rw q at e
-
-    pub room_as : (len : ℕ) → length (asked_bytes a anchor categories) ≤ len → length (asked_bytes b anchor categories) ≤ len
-    room_as len h = rw q at h
-
-    pub wrote_as : (to : List ℕ) (r : ℕ) (after : List ℕ) → Wrote to 0 (asked_bytes b anchor categories) r after
-        → Wrote to 0 (asked_bytes a anchor categories) r after
-    wrote_as to r after w = rw q w
-
-pub ruleset record_laws = (rows_list, room_array, room_of_list, count_of_list, nothing_written, fits_as, count_as, room_as, wrote_as)

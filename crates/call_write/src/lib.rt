@@ -4,15 +4,14 @@
 ghost use Rattle.std.specs.Prelude.{◌≡◌, ℕ, ◌≤◌, ◌<◌, length, get_or};
 ghost use Rattle.format.specs.Base.{pick};
 ghost use Rattle.format.specs.PairCode.{code_numbered};
-ghost use Rattle.format.specs.Track.{leans};
+ghost use Rattle.format.specs.Track.{kind, leans_kind};
 ghost use Rattle.format.specs.Reply.{write_left, write_call};
 ghost use Rattle.write_bytes.specs.Written.{Wrote};
-ghost use Rattle.call_write.specs.Asked.{asked_code, asked_for, asked_count, asked_bytes, is_allowed, AskedFits, RecordSize};
-ghost use Rattle.call_write.specs.Checked.{first_above, check_categories, as_checked, kind_out, check_out};
+ghost use Rattle.call_write.specs.Asked.{asked_code, asked_kind, asked_count, asked_bytes, AskedFits, RecordSize};
+ghost use Rattle.call_write.specs.Checked.{first_above, check_categories, as_checked, kind_checks, record_checks};
 
 use base_pairs::pair_of;
-use base_rows::larger;
-use format::{MOST_SAMPLES, Pair, PairFound, Refusal, WriteReply, refusal_at};
+use format::{Kind, MOST_SAMPLES, Pair, Refusal, refusal_at};
 use write_bytes::{Array, array_size, put_array};
 use write_list::{ListSize, list_size, put_list};
 use write_parts::Base;
@@ -25,73 +24,45 @@ pub enum Asked {
     Array,
     Pair(Pair),
     List(Base),
-    NotAllowed,
 }
 
-// A record that may be written, or why not.
-#[derive(Clone, Copy)]
-pub enum Checked {
-    Allowed(Asked),
-    Refused(Refusal),
+// The kind that the caller's number names. Document 01 gives the writer any number: one past a byte is no kind either.
+fn kind_numbered(number: usize) -> Kind
+    ensures { result ≡ kind number }
+{
+    u8::try_from(number).map_or(Kind::NoKind, Kind::from)
 }
 
 // The pair that a code asks for.
-fn asked_pair(code: usize) -> Asked
+fn asked_pair(code: usize) -> Option<Asked>
     ensures { result ≡ asked_code (code_numbered code) }
 {
-    if code > 255 {
-        return Asked::NotAllowed;
-    }
-    match pair_of(code as u8) {
-        PairFound::Known(pair) => Asked::Pair(pair),
-        PairFound::Unknown => Asked::NotAllowed,
-    }
+    let code = u8::try_from(code).ok()?;
+    pair_of(code).map(Asked::Pair)
 }
 
 // 01, Replies: 19, "kind or pair code not allowed"; the writer takes "a pair code (0 unless kind 1)".
-fn asked_for(kind: usize, code: usize) -> Asked
-    ensures { result ≡ asked_for kind code }
+fn asked_for(kind: Kind, code: usize) -> Option<Asked>
+    ensures { result ≡ asked_kind kind code }
 {
-    if kind == 1 {
-        return asked_pair(code);
-    }
-    if code != 0 {
-        return Asked::NotAllowed;
-    }
     match kind {
-        0 => Asked::Array,
-        2 => Asked::List(Base::Anchor { inverted: false }),
-        3 => Asked::List(Base::Anchor { inverted: true }),
-        4 => Asked::List(Base::Category(0)),
-        6 => Asked::List(Base::Category(2)),
-        7 => Asked::List(Base::Category(3)),
-        _ => Asked::NotAllowed,
-    }
-}
-
-// 01, Replies: whether 19, "kind or pair code not allowed", does not refuse what is asked for.
-fn is_allowed(asked: Asked) -> bool
-    ensures { result ≡ is_allowed asked }
-{
-    match asked {
-        Asked::Array => true,
-        Asked::Pair(_) => true,
-        Asked::List(_) => true,
-        Asked::NotAllowed => false,
+        Kind::Paired => asked_pair(code),
+        _ if code != 0 => None,
+        Kind::Array => Some(Asked::Array),
+        Kind::AgainstAnchor(inverted) => Some(Asked::List(Base::Anchor { inverted })),
+        Kind::AgainstCategory(category) => Some(Asked::List(Base::Category(category))),
+        Kind::NoKind => None,
     }
 }
 
 // 01: "10 (anchor not as long as the categories in kinds 2 and 3, or not empty in another)". How long it has to be.
-fn anchor_size(kind: usize, samples: usize) -> usize
-    ensures { result ≡ pick (leans kind) samples 0 }
+fn anchor_size(kind: Kind, samples: usize) -> usize
+    ensures { result ≡ pick (leans_kind kind) samples 0 }
 {
-    if kind == 2 {
-        return samples;
+    match kind {
+        Kind::AgainstAnchor(_) => samples,
+        _ => 0,
     }
-    if kind == 3 {
-        return samples;
-    }
-    0
 }
 
 // A bound of all categories, the largest: one flat loop with no exit, as categories above 3 are rare.
@@ -99,10 +70,8 @@ fn largest(categories: &[u8]) -> u8
     ensures { (i : ℕ) → i < length categories.now → get_or categories.now i 0 ≤ result }
 {
     let mut most: u8 = 0;
-    let mut i: usize = 0;
-    while i < categories.len() {
-        most = larger(most, categories[i]);
-        i = i + 1;
+    for category in categories {
+        most = most.max(*category);
     }
     most
 }
@@ -114,61 +83,54 @@ pub fn first_above_3(categories: &[u8]) -> usize
     if largest(categories) <= 3 {
         return categories.len();
     }
-    let mut i: usize = 0;
-    while i < categories.len() {
-        if categories[i] > 3 {
+    for (i, category) in categories.iter().enumerate() {
+        if *category > 3 {
             return i;
         }
-        i = i + 1;
     }
-    i
+    categories.len()
 }
 
 // 01: "20 (categories, then anchor; the index counts within its own buffer)".
-fn check_categories(asked: Asked, categories: &[u8], anchor: &[u8]) -> Checked
-    ensures { result ≡ as_checked (check_categories asked categories.now anchor.now) }
+fn check_categories(categories: &[u8], anchor: &[u8]) -> Result<(), Refusal>
+    ensures { result ≡ as_checked (check_categories tt categories.now anchor.now) }
 {
     let i = first_above_3(categories);
     if i < categories.len() {
-        return Checked::Refused(refusal_at(20, i));
+        return Err(refusal_at(20, i));
     }
     let j = first_above_3(anchor);
     if j < anchor.len() {
-        return Checked::Refused(refusal_at(20, j));
+        return Err(refusal_at(20, j));
     }
-    Checked::Allowed(asked)
+    Ok(())
 }
 
 // 01: "Order: 4 with place 0 (category count outside 1 to 65,536), 19, 10 (anchor not as long as the categories in kinds 2 and 3, or not empty in
 // another)".
-fn check_kind(categories: &[u8], kind: usize, code: usize, anchor: &[u8]) -> Checked
-    ensures { result ≡ as_checked (kind_out categories.now kind code anchor.now) }
+fn check_kind(categories: &[u8], kind: Kind, code: usize, anchor: &[u8]) -> Result<Asked, Refusal>
+    ensures { result ≡ as_checked (kind_checks categories.now kind code anchor.now) }
 {
     let samples = categories.len();
-    if samples == 0 {
-        return Checked::Refused(refusal_at(4, 0));
+    if samples == 0 || samples > MOST_SAMPLES {
+        return Err(refusal_at(4, 0));
     }
-    if samples > MOST_SAMPLES {
-        return Checked::Refused(refusal_at(4, 0));
-    }
-    let asked = asked_for(kind, code);
-    if !is_allowed(asked) {
-        return Checked::Refused(refusal_at(19, 0));
-    }
+    let Some(asked) = asked_for(kind, code) else {
+        return Err(refusal_at(19, 0));
+    };
     if anchor.len() != anchor_size(kind, samples) {
-        return Checked::Refused(refusal_at(10, 0));
+        return Err(refusal_at(10, 0));
     }
-    Checked::Allowed(asked)
+    Ok(asked)
 }
 
 // 01: then "20".
-fn check_record(categories: &[u8], kind: usize, code: usize, anchor: &[u8]) -> Checked
-    ensures { result ≡ as_checked (check_out categories.now kind code anchor.now) }
+fn check_record(categories: &[u8], kind: Kind, code: usize, anchor: &[u8]) -> Result<Asked, Refusal>
+    ensures { result ≡ as_checked (record_checks categories.now kind code anchor.now) }
 {
-    match check_kind(categories, kind, code, anchor) {
-        Checked::Refused(why) => Checked::Refused(why),
-        Checked::Allowed(asked) => check_categories(asked, categories, anchor),
-    }
+    let asked = check_kind(categories, kind, code, anchor)?;
+    check_categories(categories, anchor)?;
+    Ok(asked)
 }
 
 // How many bytes the record has, and how many entries its list.
@@ -192,7 +154,6 @@ fn record_size(asked: Asked, categories: &[u8], anchor: &[u8]) -> ListSize
             }
         }
         Asked::List(base) => list_size(base, categories, anchor),
-        Asked::NotAllowed => ListSize { count: 0, bytes: 0 },
     }
 }
 
@@ -233,7 +194,6 @@ fn put_record(
         Asked::Array => put_array(Array::Categories, categories, output, 0),
         Asked::Pair(pair) => put_pair(pair, categories, anchor, count, output),
         Asked::List(base) => put_list(base, categories, anchor, count, output, 0),
-        Asked::NotAllowed => 0,
     }
 }
 
@@ -245,19 +205,14 @@ pub fn write_record(
     code: usize,
     anchor: &[u8],
     output: &mut [u8],
-) -> WriteReply
+) -> Result<usize, Refusal>
     ensures { write_left result output.new ≡ write_call categories.now kind code anchor.now output.old }
 {
-    match check_record(categories, kind, code, anchor) {
-        Checked::Refused(why) => WriteReply::Refused(why),
-        Checked::Allowed(asked) => {
-            let size = record_size(asked, categories, anchor);
-            if size.bytes > output.len() {
-                return WriteReply::Refused(refusal_at(10, 0));
-            }
-            let entries = size.count;
-            let count = put_record(asked, categories, anchor, entries, output);
-            WriteReply::Count(count)
-        }
+    let kind = kind_numbered(kind);
+    let asked = check_record(categories, kind, code, anchor)?;
+    let size = record_size(asked, categories, anchor);
+    if size.bytes > output.len() {
+        return Err(refusal_at(10, 0));
     }
+    Ok(put_record(asked, categories, anchor, size.count, output))
 }

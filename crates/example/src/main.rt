@@ -1,40 +1,67 @@
 // The README's example: a sample's category in the file on standard input, before its variant is flipped and after.
 #![tactic(auto)]
 
-use format::{FileVariant, LookupReply, Reply};
+use format::FileVariant;
+use std::alloc::Global;
+use std::io;
+use std::io::{BufWriter, Read, Write};
+
+const MOST_INPUT: usize = 4096;
 
 // The category of a sample as a digit, or r for a refusal.
-fn put_category(
+fn put_category<W: Write>(
+    out: &mut W,
     file: &[u8],
     variant: FileVariant,
     sample: usize,
     work: &mut [u8],
-    out: &mut [u8],
-    at: usize,
-) -> usize {
-    let got = pgen::lookup(file, variant, sample, work);
-    match got {
-        LookupReply::Category(category) => text::put_decimal(out, at, category as usize),
-        LookupReply::Refused(_) => text::put(out, at, b'r'),
+) -> io::Result<()> {
+    match pgen::lookup(file, variant, sample, work) {
+        Ok(category) => write!(out, "{category}"),
+        Err(_) => write!(out, "r"),
     }
 }
 
 // Sample 0 of variant 1, before variant 1 is flipped and after.
-fn before_and_after(file: &mut [u8], work: &mut [u8], out: &mut [u8]) -> usize {
-    let before = put_category(file, FileVariant(1), 0, work, out, 0);
-    let flipped = pgen::flip(file, &[0b010], work);
-    match flipped {
-        Reply::Refused(_) => text::put(out, before, b'r'),
-        Reply::Accepted => put_category(file, FileVariant(1), 0, work, out, before),
+fn before_and_after<W: Write>(out: &mut W, file: &mut [u8], work: &mut [u8]) -> io::Result<()> {
+    put_category(out, file, FileVariant(1), 0, work)?;
+    match pgen::flip(file, &[0b010], work) {
+        Err(_) => write!(out, "r")?,
+        Ok(()) => put_category(out, file, FileVariant(1), 0, work)?,
     }
+    out.write_all(b"\n")
 }
 
-fn main() {
-    let mut space = [0u8; 4096];
+fn main(rt: HostRuntime) -> io::Result<()> {
+    run(rt.alloc(), rt.stdin(), rt.stdout())
+}
+
+// Input that can't be read ends there, and what can't be written is lost.
+fn run<R: Read + Drop, W: Write + Drop>(alloc: Global, input: R, out: W) -> io::Result<()> {
+    let mut file = Vec::with_capacity(alloc, MOST_INPUT)?;
     let mut work = [0u8; 512];
-    let mut out = [0u8; 64];
-    let count = io::read_full(0, &mut space);
-    let filled = before_and_after(&mut space[..count], &mut work, &mut out);
-    let ended = text::put(&mut out, filled, b'\n');
-    text::flush(&out, ended);
+    let mut held = BufWriter::new(alloc, out)?;
+    let _ = input.take(MOST_INPUT as u64).read_to_end(&mut file);
+    let _ = before_and_after(&mut held, &mut file, &mut work);
+    let _ = held.flush();
+    Ok(())
+}
+
+#[cfg(test)]
+mod tests {
+    use super::*;
+    use std::test::Fail;
+
+    // File A of document 01, and no file.
+    #[test]
+    fn flips_one_variant(rt: HostRuntime) -> Result<(), Fail> {
+        let file =
+            b"\x6c\x1b\x10\x03\x00\x00\x00\x05\x00\x00\x00\x40\x19\x00\x00\x00\x00\x00\x00\x00\x20\x04\x02\x04\x03\xe4\x00\x02\x01\x06\x03\x01\x02\x03";
+        let alloc = rt.alloc();
+        let mut out = Vec::new(alloc);
+        run(alloc, &file[..], &mut out)?;
+        run(alloc, io::empty(), &mut out)?;
+        assert_eq!(rt; out.as_slice(), "02\nrr\n".as_bytes());
+        Ok(())
+    }
 }

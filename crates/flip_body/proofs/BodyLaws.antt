@@ -1,14 +1,14 @@
 -- THE LAW of a body's flip: on the bytes of a body that fits it gives the bytes of its main track flipped, with what stands after that track as it was. And
 -- of any bytes it keeps the length.
 -- Assumes nothing.
+use Rattle.std.specs.Prelude.{Option, Some, None}
+use Rattle.format.specs.declared.Pair.{Pair}
 use mathlib.Core.Path.{◌≡◌, refl, sym, ap, ◌∙◌}
 use Prim.Native.Nat.{ℕ, zero, suc, ◌+◌, ◌-◌, ◌/◌, ◌≤◌}
 use mathlib.Core.Bool.{Bool, true, false}
 use mathlib.Core.List.{List, ◌∷◌, ◌++◌, map, append_assoc}
 use lib.ListN.{length, get_or, take, drop, set, length-append, take-append-drop, length-set}
 use lib.Dec.{leb}
-use Rattle.format.specs.declared.PairFound.{PairFound}
-use Rattle.format.specs.declared.PairFound.TheVariants as known
 use Rattle.format.specs.Base.{pick, Out, ok, refused}
 use Rattle.format.specs.Category.{exchange, just_one}
 use Rattle.format.specs.Packed.{one, packed}
@@ -98,12 +98,12 @@ pair_length : (N : ℕ) (s : List ℕ) → Keeps s (pair_flipped N s)
 unfolding pair_flipped
 pair_length N s = by_test (Keeps s) (leb (list_place N) (length s)) (λ t. go (found (get_or s 0 0))) (λ t. refl)
   where
-    go : (f : PairFound) → Keeps s (pair_flipped_as f N s)
-    go (known.Known p) =
+    go : (f : Option Pair) → Keeps s (pair_flipped_as f N s)
+    go (Some p) =
         edit_length (list_place N) (list_flipped N) (bits_turned p.turns N (set s 0 p.image)) (list_length N)
         ∙ bits_length p.turns N (set s 0 p.image)
         ∙ length-set s 0 p.image
-    go known.Unknown = refl
+    go None = refl
 
 kind_length : (N kind : ℕ) (s : List ℕ) → Keeps s (kind_flipped N kind s)
 kind_length N zero s = values_length 0 N s

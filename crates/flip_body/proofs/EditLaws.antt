@@ -1,5 +1,7 @@
 -- The edits of a body, on the bytes of a track's parts, whatever stands after them.
 -- Assumes nothing.
+use Rattle.std.specs.Prelude.{Option}
+use Rattle.format.specs.declared.Pair.{Pair}
 use mathlib.Core.Path.{◌≡◌, refl, sym, ap, ap₂, ◌∙◌}
 use Prim.Native.Nat.{ℕ, ◌+◌, ◌-◌, ◌*◌, ◌/◌, ◌≤◌, zero-le}
 use mathlib.Core.Bool.{Bool, true, false}
@@ -8,7 +10,6 @@ use lib.ListN.{length, length-append, length-map}
 use lib.Seq.{take_at, drop_at}
 use native.Mathlib.Omega.{arith}
 use borrow.Author.Tests.{le-leb}
-use Rattle.format.specs.declared.PairFound.{PairFound}
 use Rattle.format.specs.Base.{pick, Below, ok}
 use Rattle.format.specs.Limits.{most_samples}
 use Rattle.format.specs.Category.{exchange_all, just_one}
@@ -99,7 +100,7 @@ pair_law N c bits es after l e g =
     let k : length (x ∷ bs) ≡ list_place N = omega (arith, bits_length N turned (length-map bits (just_one (pair c).turns) ∙ e)) in
     let fits : list_place N ≤ length s = omega (arith, length-append (packed one (map bit_number bits)) list, bits_length N bits e) in
     ap (λ (t : Bool). pick t (pair_flipped_as (found (pair c).code) N s) s) (le-leb (list_place N) (length s) fits)
-    ∙ ap (λ (f : PairFound). pair_flipped_as f N s) (ap as_found (code_read_back c))
+    ∙ ap (λ (f : Option Pair). pair_flipped_as f N s) (ap as_found (code_read_back c))
     ∙ ap (list_flipped_at (list_place N) N) (bits_law (pair c).turns x N bits list e)
     ∙ ap₂ (λ (u v : List ℕ). u ++ list_flipped N v) (take_at (x ∷ bs) list (list_place N) k) (drop_at (x ∷ bs) list (list_place N) k)
     ∙ ap₂ (λ (y : ℕ) (v : List ℕ). y ∷ (bs ++ v)) (sym (image_number c)) (list_law N (off_pair c) es after l g)

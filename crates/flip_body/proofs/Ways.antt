@@ -1,19 +1,17 @@
 -- What each return of the code says, from the tests that led to it.
 -- Assumes nothing.
+use Rattle.std.specs.Prelude.{Option, Some, None, Result, Ok, Err}
 use mathlib.Core.Path.{◌≡◌, refl, ap, ap₂, ◌∙◌, sym}
 use Prim.Native.Nat.{ℕ, zero, suc, ◌+◌, ◌-◌, ◌*◌, ◌/◌, ◌^◌, ◌≤◌, ◌<◌}
 use native.Mathlib.Nat.{zero-mul}
 use native.Mathlib.Omega.{arith}
 use mathlib.Core.Bool.{Bool, true, false}
-use mathlib.Core.List.{List, ◌++◌, append-nil}
-use lib.ListN.{length, get_or, take, drop, set, length-drop, length-set, drop_of_length-le}
-use lib.Seq.{drop-drop, take_all}
+use mathlib.Core.List.{List}
+use lib.ListN.{length, get_or, set, length-set}
 use lib.Dec.{leb}
 use mir.Syntax.{w64}
 use mir.Val.{Fits}
 use borrow.Author.Tests.{le-leb, lt-leb}
-use Rattle.format.specs.declared.PairFound.{PairFound}
-use Rattle.format.specs.declared.PairFound.TheVariants as known
 use Rattle.format.specs.declared.Pair.{Pair}
 use Rattle.format.specs.declared.Refusal.{Refusal}
 use Rattle.format.specs.Base.{pick, Out, ok, refused}
@@ -23,14 +21,13 @@ use Rattle.format.specs.Difflist.{groups, number_width}
 use Rattle.format.specs.PairCode.{found}
 use Rattle.format.specs.Body.{kind_of, type_leans}
 use Rattle.format.specs.File.{next_anchor}
+use Rattle.format.proofs.Exits.{ok_parts}
 use Rattle.base_list.proofs.ShapeLaws.{width_few}
 use Rattle.base_cursor.specs.declared.Cursor.{Cursor}
-use Rattle.base_cursor.specs.declared.VarintStep.{VarintStep}
-use Rattle.base_cursor.specs.declared.VarintStep.TheVariants.{Value, Refused}
-use Rattle.base_cursor.specs.Steps.{cursor_at, varint_step, varint_at}
-use Rattle.flip_bytes.specs.Changed.{values_exchanged, bits_complemented}
+use Rattle.base_cursor.specs.Steps.{cursor_at, step, varint_at}
+use Rattle.flip_bytes.specs.Changed.{values_exchanged}
 use Rattle.flip_body.specs.Edits.{values_flipped, before_values, count_read, list_flipped, list_flipped_at}
-use Rattle.flip_body.specs.Edits.{bits_turned, list_place, pair_flipped, kind_flipped, body_flipped, flipped_in}
+use Rattle.flip_body.specs.Edits.{bits_turned, list_place, pair_flipped, kind_flipped, body_flipped}
 
 -- ---- values
 
@@ -71,47 +68,46 @@ module _ (N L width few sizes : ℕ) (ew : width ≡ number_width N) (eg : few �
   before_fits ez n h = omega (arith, before_small N L (omega arith), before_is ez)
 
 module _ (N : ℕ) (s : List ℕ) where
-  not_counted : (m : Out ℕ) (why : Refusal) → varint_step (length s) m ≡ Refused why → s ≡ count_read N s m
+  not_counted : (m : Out ℕ) (why : Refusal) → step (length s) m ≡ Err why → s ≡ count_read N s m
   not_counted (ok L left) why e = absurd (let z : ◌≡◌ {A = ℕ} 0 1 = cc in omega arith)
   not_counted (refused other) why e = refl
 
-  counted : (m : Out ℕ) (L : ℕ) (c : Cursor) → varint_step (length s) m ≡ Value L c
+  counted : (m : Out ℕ) (L : ℕ) (c : Cursor) → step (length s) m ≡ Ok (L, c)
       → count_read N s m ≡ pick (leb L N) (values_flipped (c.at + before_values N L) L s) s
   counted (ok n left) L c e =
-      let p : n ≡ L = cc in
-      let q : cursor_at (length s - length left) ≡ c = cc in
-      ap₂ (λ (j : ℕ) (d : Cursor). pick (leb j N) (values_flipped (d.at + before_values N j) j s) s) p q
+      let p : (n ≡ L) × (cursor_at (length s - length left) ≡ c) = ok_parts e in
+      ap₂ (λ (j : ℕ) (d : Cursor). pick (leb j N) (values_flipped (d.at + before_values N j) j s) s) p.0 p.1
   counted (refused why) L c e = absurd (let z : ◌≡◌ {A = ℕ} 0 1 = cc in omega arith)
 
-  within : (m : Out ℕ) (L : ℕ) (c : Cursor) → varint_step (length s) m ≡ Value L c → c.at ≤ length s
+  within : (m : Out ℕ) (L : ℕ) (c : Cursor) → step (length s) m ≡ Ok (L, c) → c.at ≤ length s
   within (ok n left) L c e =
-      let q : cursor_at (length s - length left) ≡ c = cc in
-      let k : length s - length left ≡ c.at = ap (λ (d : Cursor). d.at) q in
+      let p : (n ≡ L) × (cursor_at (length s - length left) ≡ c) = ok_parts e in
+      let k : length s - length left ≡ c.at = ap (λ (d : Cursor). d.at) p.1 in
       omega arith
   within (refused why) L c e = absurd (let z : ◌≡◌ {A = ℕ} 0 1 = cc in omega arith)
 
   -- what the cursor's varint gave
-  module _ {got : VarintStep} (g : got ≡ varint_at s 0) where
-    same : got ≡ varint_step (length s) (read_varint (length s) s)
+  module _ {got : Result (ℕ × Cursor) Refusal} (g : got ≡ varint_at s 0) where
+    same : got ≡ step (length s) (read_varint (length s) s)
     unfolding varint_at
     same = g
 
-    pub list_refused : (why : Refusal) → got ≡ Refused why → s ≡ list_flipped N s
+    pub list_refused : (why : Refusal) → got ≡ Err why → s ≡ list_flipped N s
     unfolding list_flipped
     list_refused why e = not_counted (read_varint (length s) s) why (sym same ∙ e)
 
-    list_within : (L : ℕ) (c : Cursor) → got ≡ Value L c → c.at ≤ length s
+    list_within : (L : ℕ) (c : Cursor) → got ≡ Ok (L, c) → c.at ≤ length s
     list_within L c e = within (read_varint (length s) s) L c (sym same ∙ e)
 
-    list_counted : (L : ℕ) (c : Cursor) → got ≡ Value L c → list_flipped N s ≡ pick (leb L N) (values_flipped (c.at + before_values N L) L s) s
+    list_counted : (L : ℕ) (c : Cursor) → got ≡ Ok (L, c) → list_flipped N s ≡ pick (leb L N) (values_flipped (c.at + before_values N L) L s) s
     unfolding list_flipped
     list_counted L c e = counted (read_varint (length s) s) L c (sym same ∙ e)
 
-    pub list_over : (L : ℕ) (c : Cursor) → got ≡ Value L c → N < L → s ≡ list_flipped N s
+    pub list_over : (L : ℕ) (c : Cursor) → got ≡ Ok (L, c) → N < L → s ≡ list_flipped N s
     list_over L c e h = rw (list_counted L c e, lt-leb L N h) refl
 
     -- its values come after the heads and the size bytes
-    module _ (L : ℕ) (c : Cursor) (e : got ≡ Value L c) (h : L ≤ N) (width few sizes : ℕ)
+    module _ (L : ℕ) (c : Cursor) (e : got ≡ Ok (L, c)) (h : L ≤ N) (width few sizes : ℕ)
         (ew : width ≡ number_width N) (eg : few ≡ groups L) (ez : sizes ≡ few - 1) where
       -- a slice takes less than 2^63 bytes
       pub place_fits : N ≤ most_samples → length s * 1 < 2 ^ 63 → c.at + (width * few + sizes) < 2 ^ 64
@@ -121,29 +117,19 @@ module _ (N : ℕ) (s : List ℕ) where
           → later ≡ list_flipped N s
       list_found values v later w = rw (w, v, before_is N L width few sizes ew eg ez, list_counted L c e, le-leb L N h) refl
 
--- the part from `at` to the end, given back
-pub list_part : (at N : ℕ) (s later : List ℕ) → later ≡ list_flipped N (take (length s - at) (drop at s))
-    → take at s ++ (later ++ drop (length s - at) (drop at s)) ≡ list_flipped_at at N s
-list_part at N s later w =
-    let l : length (drop at s) ≤ length s - at = omega (arith, length-drop at s) in
-    rw (w, take_all (length s - at) (drop at s) l, drop_of_length-le (drop at s) l, append-nil) refl
-
 -- ---- a pair
-
-pub bits_turn : (turns : Bool) (N : ℕ) (s later : List ℕ) → turns ≡ true → later ≡ bits_complemented 1 N s → later ≡ bits_turned turns N s
-bits_turn turns N s later t w = rw t w
 
 module _ (N : ℕ) (s : List ℕ) where
   pub pair_short : length s < list_place N → s ≡ pair_flipped N s
   unfolding pair_flipped
   pair_short h = simp lt-leb
 
-  module _ (r : PairFound) (told : r ≡ found (get_or s 0 0)) (h : list_place N ≤ length s) where
-    pub pair_other : r ≡ known.Unknown → s ≡ pair_flipped N s
+  module _ (r : Option Pair) (told : r ≡ found (get_or s 0 0)) (h : list_place N ≤ length s) where
+    pub pair_other : r ≡ None → s ≡ pair_flipped N s
     unfolding pair_flipped
     pair_other q = simp (le-leb, sym told ∙ q)
 
-    pub pair_known : (p : Pair) → r ≡ known.Known p → (turned later : List ℕ) → turned ≡ bits_turned p.turns N (set s 0 p.image)
+    pub pair_known : (p : Pair) → r ≡ Some p → (turned later : List ℕ) → turned ≡ bits_turned p.turns N (set s 0 p.image)
         → later ≡ list_flipped_at (list_place N) N turned → later ≡ pair_flipped N s
     unfolding pair_flipped
     pair_known p q turned later e w = rw (w, e) (simp (le-leb, sym told ∙ q))
@@ -172,13 +158,6 @@ module _ (N kind : ℕ) (s later : List ℕ) where
       go (suc zero) a b = absurd (b refl)
       go (suc (suc kind)) a b = refl
 
-module _ (leaning : Bool) (type : ℕ) (lent member : Bool) (e : leaning ≡ type_leans type) where
-  pub lent_by_anchor : leaning ≡ true → lent ≡ next_anchor (type_leans type) lent member
-  lent_by_anchor t = rw (← e, t) refl
-
-  pub lent_by_itself : leaning ≡ false → member ≡ next_anchor (type_leans type) lent member
-  lent_by_itself t = rw (← e, t) refl
-
 module _ (N type : ℕ) (lent member m : Bool) (s : List ℕ) (e : m ≡ next_anchor (type_leans type) lent member) where
   pub body_moves : (later : List ℕ) (kind : ℕ) → m ≡ true → kind ≡ kind_of type → later ≡ kind_flipped N kind s → later ≡ body_flipped N type lent member s
   unfolding body_flipped
@@ -188,20 +167,10 @@ module _ (N type : ℕ) (lent member m : Bool) (s : List ℕ) (e : m ≡ next_an
   unfolding body_flipped
   body_stays t = rw (← e, t) refl
 
--- the part from start to end, given back
-pub record_part : (start end N type : ℕ) (lent member : Bool) (s later : List ℕ) → start ≤ end
-    → later ≡ body_flipped N type lent member (take (end - start) (drop start s))
-    → take start s ++ (later ++ drop (end - start) (drop start s)) ≡ flipped_in start end N type lent member s
-record_part start end N type lent member s later h e =
-    let z : start + (end - start) ≡ end = omega arith in
-    ap₂ (λ (u v : List ℕ). take start s ++ (u ++ v)) e (drop-drop (end - start) start s ∙ ap (λ (i : ℕ). drop i s) z)
-
 pub ruleset values_laws = (values_fit, values_end_past, values_start_past)
 
 pub ruleset list_laws = (list_refused, list_over, list_found, heads_fit, before_fits, place_fits)
 
 pub ruleset pair_laws = (pair_short, pair_other, pair_known, list_inside, pair_kept)
-
-pub ruleset lent_laws = (lent_by_anchor, lent_by_itself)
 
 pub ruleset body_laws = (kind_values, kind_pair, kind_list, body_moves, body_stays)

@@ -1,8 +1,7 @@
 -- The flip of a record's body in its own bytes, for any bytes: edits at places that do not depend on what is flipped, and none where they do not fit.
 -- Assumes nothing.
-use Rattle.std.specs.Prelude.{ℕ, zero, suc, ◌+◌, ◌-◌, ◌*◌, ◌/◌, Bool, true, false, List, ◌++◌, length, get_or, take, drop, set, leb}
-use Rattle.format.specs.declared.PairFound.{PairFound}
-use Rattle.format.specs.declared.PairFound.TheVariants as known
+use Rattle.std.specs.Prelude.{ℕ, zero, suc, ◌+◌, ◌-◌, ◌*◌, ◌/◌, Bool, true, false, List, ◌++◌, length, get_or, take, drop, set, leb, Option, Some, None}
+use Rattle.format.specs.declared.Pair.{Pair}
 use Rattle.format.specs.Base.{pick, Out, ok, refused}
 use Rattle.format.specs.Varint.{read_varint}
 use Rattle.format.specs.Difflist.{groups, number_width}
@@ -39,9 +38,9 @@ bits_turned false N s = s
 abbrev pub list_place : ℕ → ℕ
 list_place N = 1 + (N + 7) / 8
 
-abbrev pub pair_flipped_as : PairFound → ℕ → List ℕ → List ℕ
-pair_flipped_as (known.Known p) N s = list_flipped_at (list_place N) N (bits_turned p.turns N (set s 0 p.image))
-pair_flipped_as known.Unknown N s = s
+abbrev pub pair_flipped_as : Option Pair → ℕ → List ℕ → List ℕ
+pair_flipped_as (Some p) N s = list_flipped_at (list_place N) N (bits_turned p.turns N (set s 0 p.image))
+pair_flipped_as None N s = s
 
 unfoldable pub pair_flipped : ℕ → List ℕ → List ℕ
 pair_flipped N s = pick (leb (list_place N) (length s)) (pair_flipped_as (found (get_or s 0 0)) N s) s

@@ -8,9 +8,8 @@ ghost use Rattle.format.specs.File.{next_anchor};
 ghost use Rattle.flip_body.specs.Edits.{values_flipped, list_flipped, list_flipped_at, bits_turned, list_place};
 ghost use Rattle.flip_body.specs.Edits.{pair_flipped, kind_flipped, body_flipped, flipped_in};
 
-use base_cursor::{Cursor, VarintStep};
+use base_cursor::Cursor;
 use base_list::number_width;
-use format::PairFound;
 use head_types::{kind_of, type_leans};
 
 // The values of a list, or of a whole record of kind 0, from `c` on, if they fit.
@@ -18,19 +17,9 @@ fn flip_values(s: &mut [u8], c: Cursor, count: usize)
     requires { count ≤ most_samples }
     ensures { s.new ≡ values_flipped c.at count s.old }
 {
-    let p = c.at;
-    if p <= s.len() {
-        if (count + 3) / 4 <= s.len() - p {
-            flip_bytes::exchange_values(s, p, count);
-        }
+    if c.at <= s.len() && (count + 3) / 4 <= s.len() - c.at {
+        flip_bytes::exchange_values(s, c.at, count);
     }
-}
-
-// 01: "G − 1 size bytes"; none where there is no group.
-fn size_bytes(groups: usize) -> usize
-    ensures { result ≡ groups - 1 }
-{
-    if groups == 0 { 0 } else { groups - 1 }
 }
 
 // A list: only its values change, and their place depends on the count alone.
@@ -38,17 +27,14 @@ fn flip_list(s: &mut [u8], n: usize)
     requires { n ≤ most_samples }
     ensures { s.new ≡ list_flipped n s.old }
 {
-    let got = Cursor { at: 0 }.varint(&s[..]);
-    match got {
-        VarintStep::Refused(_) => {}
-        VarintStep::Value(count, next) => {
-            if count <= n {
-                let groups = base_list::groups(count);
-                let heads = number_width(n) * groups;
-                let sizes = size_bytes(groups);
-                flip_values(s, next.past(heads + sizes), count);
-            }
-        }
+    let Ok((count, next)) = Cursor { at: 0 }.varint(&s[..]) else {
+        return;
+    };
+    if count <= n {
+        let groups = base_list::groups(count);
+        // 01: "G − 1 size bytes"; none where there is no group
+        let before = number_width(n) * groups + groups.saturating_sub(1);
+        flip_values(s, next.past(before), count);
     }
 }
 
@@ -79,8 +65,7 @@ fn flip_pair(s: &mut [u8], n: usize)
     if s.len() < q {
         return;
     }
-    let code = s[0];
-    let PairFound::Known(pair) = base_pairs::pair_of(code) else {
+    let Some(pair) = base_pairs::pair_of(s[0]) else {
         return;
     };
     s[0] = pair.image;

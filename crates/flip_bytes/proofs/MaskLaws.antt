@@ -2,7 +2,7 @@
 -- Assumes nothing.
 use mathlib.Core.Path.{◌≡◌, refl, ap, ◌∙◌, sym}
 use mathlib.Core.Bool.{Bool}
-use Prim.Native.Nat.{ℕ, zero, suc, ◌+◌, ◌*◌, ◌/◌, ◌%◌, ◌<◌, ◌≤◌, zero-le}
+use Prim.Native.Nat.{ℕ, zero, suc, ◌+◌, ◌*◌, ◌/◌, ◌%◌, ◌<◌, ◌≤◌}
 use native.Mathlib.Nat.{not-suc-le-zero}
 use native.Mathlib.Omega.{arith}
 use lib.Dec.{eqb, eqb→eq}
@@ -48,21 +48,3 @@ bits_some n b mask l h e = ap (bit_xor b) e ∙ bits_rule n b (omega arith) h
 
 pub bits_full : (n b : ℕ) → 8 ≤ n → b < 256 → bit_xor b 0xff ≡ changed_byte 2 complement 8 n b
 bits_full n b l h = bits_rule 8 b (omega arith) h ∙ sym (full_byte 2 complement 8 n b l)
-
--- what is left of the counts of a mask, once the others are told apart
-pub values_left : (n : ℕ) → n < 4 → (n ≡ 0 → ⊥) → (n ≡ 1 → ⊥) → (n ≡ 2 → ⊥) → 0x2a ≡ value_mask n
-values_left zero l a b d = absurd (a refl)
-values_left (suc zero) l a b d = absurd (b refl)
-values_left (suc (suc zero)) l a b d = absurd (d refl)
-values_left (suc (suc (suc zero))) l a b d = refl
-values_left (suc (suc (suc (suc n)))) l a b d = absurd (omega arith)
-
--- from 0 on, the counts that n is not
-past : (k n : ℕ) → k ≤ n → (n ≡ k → ⊥) → suc k ≤ n
-past k n h d = omega arith
-
-pub bits_left : (n : ℕ) → n < 8 → (n ≡ 0 → ⊥) → (n ≡ 1 → ⊥) → (n ≡ 2 → ⊥) → (n ≡ 3 → ⊥) → (n ≡ 4 → ⊥) → (n ≡ 5 → ⊥) → (n ≡ 6 → ⊥) → 0x7f ≡ bit_mask n
-bits_left n l a b c d e f g =
-    let h : 7 ≤ n = past 6 n (past 5 n (past 4 n (past 3 n (past 2 n (past 1 n (past 0 n zero-le a) b) c) d) e) f) g in
-    let z : 7 ≡ n = omega arith in
-    ap bit_mask z

@@ -1,7 +1,7 @@
 -- The loops over packed bytes: what is still to change, and what a mask does to one byte.
 -- Assumes nothing.
 use mathlib.Core.Path.{◌≡◌, refl, sym, ap, ◌∙◌}
-use Prim.Native.Nat.{ℕ, suc, ◌+◌, ◌-◌, ◌/◌, ◌≤◌, ◌<◌}
+use Prim.Native.Nat.{ℕ, suc, ◌+◌, ◌-◌, ◌*◌, ◌/◌, ◌%◌, ◌≤◌, ◌<◌}
 use mathlib.Core.List.{List}
 use lib.ListN.{length, get_or, set, length-set}
 use lib.Bits.{bit_xor}
@@ -42,31 +42,69 @@ module _ {b m : ℕ} {f : ℕ → ℕ} {s₀ : List ℕ} {at n : ℕ} {s : List 
 
 -- ---- categories
 
-module _ {s₀ : List ℕ} {at n : ℕ} {s : List ℕ} {i left : ℕ} (w : Changing 4 3 exchange s₀ at n s i left) (known : (j : ℕ) → Fits w8 (get_or s j 0)) where
-  pub values_go_on : 4 ≤ left → (v : ℕ) → v ≡ exchanged_by 0xaa (get_or s i 0) → Changing 4 3 exchange s₀ at n (set s i v) (i + 1) (left - 4)
-  values_go_on h v e = record {
-    same = turned w v (e ∙ values_full left (get_or s i 0) h (known i).fits) (omega (arith, w.room));
-    room = simp length-set (omega (arith, w.room));
-    long = length-set s i v ∙ w.long;
-  }
+module _ {s₀ : List ℕ} {at n : ℕ} {s : List ℕ} {i : ℕ} (w : Changing 4 3 exchange s₀ at n s (at + i) (n - 4 * i))
+    (known : (j : ℕ) → Fits w8 (get_or s j 0)) where
+  pub values_go_on : i < n / 4 → (v : ℕ) → v ≡ exchanged_by 0xaa (get_or s (at + i) 0)
+      → Changing 4 3 exchange s₀ at n (set s (at + i) v) (at + (i + 1)) (n - 4 * (i + 1))
+  values_go_on h v e =
+      let p : at + (i + 1) ≡ at + i + 1 = omega arith in
+      let q : n - 4 * (i + 1) ≡ n - 4 * i - 4 = omega arith in
+      rw (p, q) (record {
+        same = turned w v (e ∙ values_full (n - 4 * i) (get_or s (at + i) 0) (omega arith) (known (at + i)).fits) (omega (arith, w.room));
+        room = simp length-set (omega (arith, w.room));
+        long = length-set s (at + i) v ∙ w.long;
+      })
 
-  pub values_last : 0 < left → left < 4 → (mask v : ℕ) → mask ≡ value_mask left → v ≡ exchanged_by mask (get_or s i 0)
-      → set s i v ≡ values_exchanged at n s₀
-  values_last h k mask v d e = last w v (e ∙ values_some left (get_or s i 0) mask k (known i).fits d) (omega (arith, w.room)) (omega arith)
+  module _ (l : i ≤ n / 4) (h : n / 4 ≤ i) where
+    values_rest : n - 4 * i ≡ n % 4
+    values_rest = omega arith
 
-pub ruleset values_laws = (change_starts, change_ends, values_go_on, values_last)
+    values_place : at + i ≡ at + n / 4
+    values_place = omega arith
+
+    pub values_last : (n % 4 ≡ 0 → ⊥) → (mask v : ℕ) → mask ≡ value_mask (n % 4) → v ≡ exchanged_by mask (get_or s (at + n / 4) 0)
+        → set s (at + n / 4) v ≡ values_exchanged at n s₀
+    values_last z mask v d e =
+        let c : Changing 4 3 exchange s₀ at n s (at + n / 4) (n % 4) = rw (values_place, values_rest) at w in
+        last c v (e ∙ values_some (n % 4) (get_or s (at + n / 4) 0) mask (omega arith) (known (at + n / 4)).fits d) (omega (arith, c.room)) (omega arith)
+
+-- all have changed
+pub values_none : {s₀ : List ℕ} {at n : ℕ} {s : List ℕ} {i : ℕ} → Changing 4 3 exchange s₀ at n s (at + i) (n - 4 * i) → n / 4 ≤ i → n % 4 ≡ 0
+    → s ≡ values_exchanged at n s₀
+values_none w h z = change_ends w (omega arith)
+
+pub ruleset values_laws = (change_starts, values_go_on, values_last, values_none)
 
 -- ---- bits
 
-module _ {s₀ : List ℕ} {at n : ℕ} {s : List ℕ} {i left : ℕ} (w : Changing 2 7 complement s₀ at n s i left) (known : (j : ℕ) → Fits w8 (get_or s j 0)) where
-  pub bits_go_on : 8 ≤ left → Changing 2 7 complement s₀ at n (set s i (bit_xor (get_or s i 0) 0xff)) (i + 1) (left - 8)
-  bits_go_on h = record {
-    same = turned w _ (bits_full left (get_or s i 0) h (known i).fits) (omega (arith, w.room));
-    room = simp length-set (omega (arith, w.room));
-    long = length-set s i _ ∙ w.long;
-  }
+module _ {s₀ : List ℕ} {at n : ℕ} {s : List ℕ} {i : ℕ} (w : Changing 2 7 complement s₀ at n s (at + i) (n - 8 * i))
+    (known : (j : ℕ) → Fits w8 (get_or s j 0)) where
+  pub bits_go_on : i < n / 8 → Changing 2 7 complement s₀ at n (set s (at + i) (bit_xor (get_or s (at + i) 0) 0xff)) (at + (i + 1)) (n - 8 * (i + 1))
+  bits_go_on h =
+      let p : at + (i + 1) ≡ at + i + 1 = omega arith in
+      let q : n - 8 * (i + 1) ≡ n - 8 * i - 8 = omega arith in
+      rw (p, q) (record {
+        same = turned w _ (bits_full (n - 8 * i) (get_or s (at + i) 0) (omega arith) (known (at + i)).fits) (omega (arith, w.room));
+        room = simp length-set (omega (arith, w.room));
+        long = length-set s (at + i) _ ∙ w.long;
+      })
 
-  pub bits_last : 0 < left → left < 8 → (mask : ℕ) → mask ≡ bit_mask left → set s i (bit_xor (get_or s i 0) mask) ≡ bits_complemented at n s₀
-  bits_last h k mask d = last w _ (bits_some left (get_or s i 0) mask k (known i).fits d) (omega (arith, w.room)) (omega arith)
+  module _ (l : i ≤ n / 8) (h : n / 8 ≤ i) where
+    bits_rest : n - 8 * i ≡ n % 8
+    bits_rest = omega arith
 
-pub ruleset bits_laws = (change_starts, change_ends, bits_go_on, bits_last)
+    bits_place : at + i ≡ at + n / 8
+    bits_place = omega arith
+
+    pub bits_last : (n % 8 ≡ 0 → ⊥) → (mask : ℕ) → mask ≡ bit_mask (n % 8)
+        → set s (at + n / 8) (bit_xor (get_or s (at + n / 8) 0) mask) ≡ bits_complemented at n s₀
+    bits_last z mask d =
+        let c : Changing 2 7 complement s₀ at n s (at + n / 8) (n % 8) = rw (bits_place, bits_rest) at w in
+        last c _ (bits_some (n % 8) (get_or s (at + n / 8) 0) mask (omega arith) (known (at + n / 8)).fits d) (omega (arith, c.room)) (omega arith)
+
+-- all have changed
+pub bits_none : {s₀ : List ℕ} {at n : ℕ} {s : List ℕ} {i : ℕ} → Changing 2 7 complement s₀ at n s (at + i) (n - 8 * i) → n / 8 ≤ i → n % 8 ≡ 0
+    → s ≡ bits_complemented at n s₀
+bits_none w h z = change_ends w (omega arith)
+
+pub ruleset bits_laws = (change_starts, bits_go_on, bits_last, bits_none)

@@ -31,15 +31,12 @@ pub fn exchange_values(s: &mut [u8], at: usize, n: usize)
     requires { at + (n + 3) / 4 ≤ length s.old }
     ensures { s.new ≡ values_exchanged at n s.old }
 {
-    let mut i = at;
-    let mut left = n;
-    while 4 <= left {
-        s[i] = exchange_byte(s[i], 0xaa);
-        i += 1;
-        left -= 4;
+    for i in 0..n / 4 {
+        s[at + i] = exchange_byte(s[at + i], 0xaa);
     }
-    if 0 < left {
-        s[i] = exchange_byte(s[i], mask_of_values(left));
+    if n % 4 != 0 {
+        let last = at + n / 4;
+        s[last] = exchange_byte(s[last], mask_of_values(n % 4));
     }
 }
 
@@ -48,16 +45,7 @@ fn mask_of_bits(n: usize) -> u8
     requires { n < 8 }
     ensures { result ≡ bit_mask n }
 {
-    match n {
-        0 => 0,
-        1 => 0x01,
-        2 => 0x03,
-        3 => 0x07,
-        4 => 0x0f,
-        5 => 0x1f,
-        6 => 0x3f,
-        _ => 0x7f,
-    }
+    (1 << n) - 1
 }
 
 // The first n bits from byte `at` on, complemented, in place; the unused bits of the last byte stay (01, The header: "its unused bits are zero").
@@ -65,14 +53,10 @@ pub fn complement_bits(s: &mut [u8], at: usize, n: usize)
     requires { at + (n + 7) / 8 ≤ length s.old }
     ensures { s.new ≡ bits_complemented at n s.old }
 {
-    let mut i = at;
-    let mut left = n;
-    while 8 <= left {
-        s[i] = s[i] ^ 0xff;
-        i += 1;
-        left -= 8;
+    for i in 0..n / 8 {
+        s[at + i] ^= 0xff;
     }
-    if 0 < left {
-        s[i] = s[i] ^ mask_of_bits(left);
+    if n % 8 != 0 {
+        s[at + n / 8] ^= mask_of_bits(n % 8);
     }
 }

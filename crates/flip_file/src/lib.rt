@@ -28,10 +28,7 @@ use head_types::{kind_of, type_leans};
 fn fits(start: usize, size: usize, length: usize) -> bool
     ensures { result ≡ leb (start + size) length }
 {
-    if start <= length {
-        return size <= length - start;
-    }
-    false
+    start <= length && size <= length - start
 }
 
 // All bodies, in variant order. 01, Errors: "Flipping an anchor and leaving the records that lean on it."
@@ -41,10 +38,9 @@ fn flip_bodies(file: &mut [u8], f: Fields, set: &[u8])
 {
     let m = f.variants;
     let n = f.samples;
-    let mut v = 0;
     let mut start = first_record(f);
     let mut lent = false;
-    while v < m {
+    for v in 0..m {
         let record_type = type_of(&file[..], f, FileVariant(v));
         let size = size_of(&file[..], f, FileVariant(v));
         if !fits(start, size, file.len()) {
@@ -55,7 +51,6 @@ fn flip_bodies(file: &mut [u8], f: Fields, set: &[u8])
         flip_body(file, start, end, n, record_type, lent, own);
         lent = next_lent(record_type, lent, own);
         start = end;
-        v = v + 1;
     }
 }
 
@@ -63,11 +58,7 @@ fn flip_bodies(file: &mut [u8], f: Fields, set: &[u8])
 fn by_memberships(lent: bool, own: bool, one: u8, other: u8) -> u8
     ensures { result ≡ pick (just_one lent own) one other }
 {
-    if lent {
-        if own { other } else { one }
-    } else {
-        if own { one } else { other }
-    }
+    if lent == own { other } else { one }
 }
 
 // 01, Categories and kinds: kind 3 is kind 2 "then 0 and 2 exchanged for all samples"; kinds 4 and 6 list against 0 and 2.
@@ -94,10 +85,7 @@ fn flip_of_type(lent: bool, own: bool, record_type: u8) -> u8
 fn is_touched(lent: bool, own: bool, record_type: u8) -> bool
     ensures { result ≡ touched lent own record_type }
 {
-    if own {
-        return true;
-    }
-    if type_leans(record_type) { lent } else { false }
+    own || (type_leans(record_type) && lent)
 }
 
 // 01, The header: "its packed types (low nibble first)": the byte that holds type i of a block, with x for that type; `half`: types of 4 bits, else of 8.
@@ -142,15 +130,12 @@ fn flip_types(file: &mut [u8], f: Fields, set: &[u8])
     requires { (f.variants ≤ most_variants) × (unblocked f.mode ≡ false) }
     ensures { file.new ≡ all_types variants_to_a_block (fixed f) (member set.now) file.old }
 {
-    let m = f.variants;
-    let mut v = 0;
     let mut lent = false;
-    while v < m {
+    for v in 0..f.variants {
         let record_type = stored_type(&file[..], f, FileVariant(v));
         let own = is_member(set, FileVariant(v));
         flip_type(file, f, FileVariant(v), lent, own, record_type);
         lent = next_lent(record_type, lent, own);
-        v += 1;
     }
 }
 

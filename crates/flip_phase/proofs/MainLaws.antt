@@ -1,36 +1,30 @@
 -- The main track of a record that stands at a place, as code passes it: where it ends, and how many of its samples are heterozygous.
 -- Assumes nothing.
+use Rattle.std.specs.Prelude.{Result, Ok, Err}
 use mathlib.Core.Path.{◌≡◌, refl, sym, ap, ap₂, ◌∙◌, subst}
 use Prim.Native.Nat.{ℕ, ◌^◌, ◌<◌}
 use native.Mathlib.Omega.{arith}
-use native.Mathlib.Nat.{mod-lt}
 use mathlib.Core.Bool.{Bool, true, false}
 use mathlib.Core.List.{List, ◌++◌}
 use lib.ListN.{length, take, drop}
 use lib.Seq.{take_at, drop_at}
-use lib.Dec.{lit<}
-use borrow.Author.Tests.{eq-eqb}
 use Rattle.format.specs.declared.Refusal.{Refusal}
 use Rattle.format.specs.Base.{Out, ok, map_out}
 use Rattle.format.specs.Difflist.{Entry, number_width, read_list}
 use Rattle.format.specs.Track.{kind, Track, plain, one_bit, leaning, sparse, track_kind, track_leans, off_anchor, rule, Fits, track_bytes, read_kind}
 use Rattle.format.specs.Track.{apply, track_categories}
 use Rattle.format.specs.Phase.{heterozygous_count, phases_bytes}
+use Rattle.format.specs.declared.Kind.{Kind}
 use Rattle.format.specs.Body.{kind_of, type_leans, body_categories, track_heterozygous}
 use Rattle.format.proofs.Rules.{never_both}
 use Rattle.format.proofs.DifflistLaws.{list_read_back}
 use Rattle.format.proofs.TrackLaws.{wide_enough, track_read_back}
 use Rattle.format.proofs.BodyLaws.{body_kind}
 use Rattle.format.proofs.RowLaws.{body_row}
-use Rattle.format.proofs.FlipTypeLaws.{track_kind_not_5}
 use Rattle.format.proofs.PhaseFlipLaws.{heterozygous_exchange}
 use Rattle.base_cursor.specs.declared.Cursor.{Cursor}
 use Rattle.base_cursor.specs.Steps.{before}
-use Rattle.read_calls.specs.declared.CallsStep.{CallsStep}
-use Rattle.read_calls.specs.declared.CallsStep.TheVariants as counts
 use Rattle.read_list.specs.declared.ListRule.TheVariants.{OffRow}
-use Rattle.read_list.specs.declared.ListStep.{ListStep}
-use Rattle.read_list.specs.declared.ListStep.TheVariants as list
 use Rattle.read_list.specs.Entries.{list_left}
 use Rattle.read_list.specs.Listed.{list_at}
 use Rattle.read_calls.specs.Counted.{count_replied, counted}
@@ -74,7 +68,7 @@ module _ {n : ℕ} {p : Place} {row file : List ℕ} (w : RecordThere n p row fi
       (subst (Fits n (take n row)) x.is w.fits.0)
 
   counted_there : (x : Leaner) → counted OffRow (take n row) n cut p.start
-      ≡ counts.Counted (before (length cut) left) (heterozygous_count (apply x.entries (take n row)))
+      ≡ Ok (before (length cut) left, heterozygous_count (apply x.entries (take n row)))
   unfolding counted
   counted_there x = ap (count_replied (length cut) (take n row)) (list_there x)
 
@@ -84,21 +78,21 @@ module _ {n : ℕ} {p : Place} {row file : List ℕ} (w : RecordThere n p row fi
       ∙ ap (track_heterozygous n (take n row)) (sym x.is)
 
 -- the cursor and the count of a list that was counted
-abbrev next_of : CallsStep → ℕ
-next_of (counts.Counted c h) = c.at
-next_of (counts.Refused why) = 0
+abbrev next_of : Result (Cursor × ℕ) Refusal → ℕ
+next_of (Ok (c, h)) = c.at
+next_of (Err why) = 0
 
-abbrev count_of : CallsStep → ℕ
-count_of (counts.Counted c h) = h
-count_of (counts.Refused why) = 0
+abbrev count_of : Result (Cursor × ℕ) Refusal → ℕ
+count_of (Ok (c, h)) = h
+count_of (Err why) = 0
 
-abbrev is_counted : CallsStep → Bool
-is_counted (counts.Counted c h) = true
-is_counted (counts.Refused why) = false
+abbrev is_counted : Result (Cursor × ℕ) Refusal → Bool
+is_counted (Ok (c, h)) = true
+is_counted (Err why) = false
 
-module _ (n : ℕ) (p : Place) (row file : List ℕ) (e : type_leans p.record_type ≡ true) (got : CallsStep)
+module _ (n : ℕ) (p : Place) (row file : List ℕ) (e : type_leans p.record_type ≡ true) (got : Result (Cursor × ℕ) Refusal)
     (d : got ≡ counted OffRow (take n row) n (take p.end file) p.start) where
-  pub counted_main : (next : Cursor) (h : ℕ) → got ≡ counts.Counted next h → (main : Main) → main ≡ record { end = next; count = h }
+  pub counted_main : (next : Cursor) (h : ℕ) → got ≡ Ok (next, h) → (main : Main) → main ≡ record { end = next; count = h }
       → MainPassed n p row file main
   counted_main next h q main m = record {
     end_is = λ w. ap (λ (z : Main). z.end.at) m ∙ ap next_of (sym q ∙ d ∙ counted_there w (leaner w e)) ∙ main_ends w;
@@ -106,7 +100,7 @@ module _ (n : ℕ) (p : Place) (row file : List ℕ) (e : type_leans p.record_ty
   }
 
   -- an accepted record is not refused
-  pub not_refused : (why : Refusal) → got ≡ counts.Refused why → (main : Main) → MainPassed n p row file main
+  pub not_refused : (why : Refusal) → got ≡ Err why → (main : Main) → MainPassed n p row file main
   not_refused why q main =
       let never : RecordThere n p row file → ⊥ = λ w. never_both (ap is_counted (d ∙ counted_there w (leaner w e))) (ap is_counted q) in
       record { end_is = λ w. absurd (never w); count_is = λ w. absurd (never w) }
@@ -116,32 +110,30 @@ pub ruleset leaning_laws = (record_inside, cut_end, cut_start, counted_main, not
 -- ---- any other record
 
 -- an answer that is not refused is left as it is
-unwiped : (n : ℕ) (r : ListStep) (row₁ : List ℕ) (c : Cursor) (x : List ℕ) → wiped n (list_left r row₁) ≡ list_left (list.Listed c) x
-    → (r ≡ list.Listed c) × (row₁ ≡ x)
-unwiped n (list.Listed d) row₁ c x e = (cc, cc)
-unwiped n (list.Refused why) row₁ c x e = let z : ◌≡◌ {A = ℕ} 0 1 = cc in absurd (omega arith)
+unwiped : (n : ℕ) (r : Result Cursor Refusal) (row₁ : List ℕ) (c : Cursor) (x : List ℕ) → wiped n (list_left r row₁) ≡ list_left (Ok c) x
+    → (r ≡ Ok c) × (row₁ ≡ x)
+unwiped n (Ok d) row₁ c x e = (cc, cc)
+unwiped n (Err why) row₁ c x e = let z : ◌≡◌ {A = ℕ} 0 1 = cc in absurd (omega arith)
 
-abbrev at_of : ListStep → ℕ
-at_of (list.Listed c) = c.at
-at_of (list.Refused why) = 0
+abbrev at_of : Result Cursor Refusal → ℕ
+at_of (Ok c) = c.at
+at_of (Err why) = 0
 
-abbrev is_listed : ListStep → Bool
-is_listed (list.Listed c) = true
-is_listed (list.Refused why) = false
+abbrev is_listed : Result Cursor Refusal → Bool
+is_listed (Ok c) = true
+is_listed (Err why) = false
 
 module _ (n : ℕ) (p : Place) (row file : List ℕ) (s : type_leans p.record_type ≡ false) (number : ℕ) (k : number ≡ kind_of p.record_type) where
   kind_is : (w : RecordThere n p row file) → number ≡ track_kind w.body.main
   kind_is w = k ∙ ap kind_of w.type_is ∙ body_kind n (take n row) w.body w.fits
 
-  pub kind_small : number < 8
-  kind_small = rw k (mod-lt p.record_type (lit< tt))
+  module _ (kind₁ : Kind) (numbered : kind₁ ≡ kind number) (r : Result Cursor Refusal) (row₁ : List ℕ)
+      (given : wiped n (list_left r row₁) ≡ tracked kind₁ n (take p.end file) p.start row) where
+    d : wiped n (list_left r row₁) ≡ tracked (kind number) n (take p.end file) p.start row
+    d = rw numbered at given
 
-  pub kind_not_5 : RecordThere n p row file → number ≡ 5 → ⊥
-  kind_not_5 w q = never_both (eq-eqb (track_kind w.body.main) 5 (sym (kind_is w) ∙ q)) (track_kind_not_5 n (take n row) w.body.main w.fits.0)
-
-  module _ (r : ListStep) (row₁ : List ℕ) (d : wiped n (list_left r row₁) ≡ tracked (kind number) n (take p.end file) p.start row) where
     left_there : (w : RecordThere n p row file)
-        → (r ≡ list.Listed (before (length (take p.end file)) (phases_bytes w.body.phases)))
+        → (r ≡ Ok (before (length (take p.end file)) (phases_bytes w.body.phases)))
         × (row₁ ≡ body_categories n (take n row) w.body ++ drop n row)
     unfolding kind_categories
     left_there w =
@@ -165,7 +157,7 @@ module _ (n : ℕ) (p : Place) (row file : List ℕ) (s : type_leans p.record_ty
     rest_is w = ap (drop n) (left_there w).1 ∙ drop_at (body_categories n (take n row) w.body) (drop n row) n (counted_row w)
 
     module _ (w : RecordThere n p row file) (count : ℕ) (c : count ≡ heterozygous_count (take n row₁)) (main : Main) where
-      pub read_main : (next : Cursor) → r ≡ list.Listed next → main ≡ record { end = next; count = count } → MainRead n p row file row₁ main
+      pub read_main : (next : Cursor) → r ≡ Ok next → main ≡ record { end = next; count = count } → MainRead n p row file row₁ main
       read_main next q m = record {
         passed = record {
           end_is = λ w. ap (λ (z : Main). z.end.at) m ∙ ap at_of (sym q ∙ (left_there w).0) ∙ main_ends w;
@@ -175,7 +167,7 @@ module _ (n : ℕ) (p : Place) (row file : List ℕ) (s : type_leans p.record_ty
         rest = rest_is w;
       }
 
-      pub not_unread : (why : Refusal) → r ≡ list.Refused why → MainRead n p row file row₁ main
+      pub not_unread : (why : Refusal) → r ≡ Err why → MainRead n p row file row₁ main
       not_unread why q = never_both (ap is_listed (left_there w).0) (ap is_listed q)
 
-pub ruleset standing_laws = (record_inside, cut_end, cut_start, kind_small, kind_not_5, read_main, not_unread)
+pub ruleset standing_laws = (record_inside, cut_end, cut_start, read_main, not_unread)

@@ -13,14 +13,12 @@ ghost use Rattle.flip_phase.specs.AllRecords.{LeansIfAny, PhasedIfAny, AllPassed
 
 use base_cursor::Cursor;
 use base_rows::clear;
-use format::{Fields, FileVariant};
+use format::{Fields, FileVariant, Kind};
 use head_blocks::first_record;
 use head_places::Place;
 use head_records::{byte_at, size_of, type_of};
 use head_types::{kind_of, type_leans, type_phased};
-use read_calls::CallsStep;
 use read_calls::list::count_leaning;
-use read_list::ListStep;
 use read_phase::{first_count, heterozygous_count, phased_count, presence_stored};
 use read_record::read_track;
 
@@ -52,13 +50,12 @@ fn pass_leaning(file: &[u8], p: Place, n: usize, row: &[u8], h: usize) -> Main
 {
     let end = p.end;
     let here = Cursor { at: p.start };
-    let got = count_leaning(&file[..end], n, here, row, h);
-    match got {
-        CallsStep::Refused(_) => Main {
+    match count_leaning(&file[..end], n, here, row, h) {
+        Err(_) => Main {
             end: here,
             count: 0,
         },
-        CallsStep::Counted(next, count) => Main { end: next, count },
+        Ok((end, count)) => Main { end, count },
     }
 }
 
@@ -69,11 +66,18 @@ fn read_standing(file: &[u8], p: Place, n: usize, row: &mut [u8]) -> Main
 {
     let end = p.end;
     let here = Cursor { at: p.start };
-    let got = read_track(&file[..end], here, n, kind_of(p.record_type), false, row);
+    let got = read_track(
+        &file[..end],
+        here,
+        n,
+        Kind::from(kind_of(p.record_type)),
+        false,
+        row,
+    );
     let count = heterozygous_count(&row[..], n);
     match got {
-        ListStep::Refused(_) => Main { end: here, count },
-        ListStep::Listed(next) => Main { end: next, count },
+        Err(_) => Main { end: here, count },
+        Ok(next) => Main { end: next, count },
     }
 }
 
@@ -81,10 +85,7 @@ fn read_standing(file: &[u8], p: Place, n: usize, row: &mut [u8]) -> Main
 fn turns(own: bool, record_type: u8) -> bool
     ensures { result ≡ own && type_phased record_type }
 {
-    if own {
-        return type_phased(record_type);
-    }
-    false
+    own && type_phased(record_type)
 }
 
 // One record. `own`: it is in the set; a record that only leans on a member keeps its phase bits. `leant`: the next record leans, on this one or on
@@ -134,10 +135,7 @@ fn leans_if_any(file: &[u8], f: Fields, v: FileVariant) -> bool
     requires { f.variants ≤ most_variants }
     ensures { LeansIfAny file.now f v result }
 {
-    if v.0 < f.variants {
-        return type_leans(type_of(file, f, v));
-    }
-    false
+    v.0 < f.variants && type_leans(type_of(file, f, v))
 }
 
 // All records, in variant order. Only those are read that have phase bits to turn or that the next one leans on.
@@ -147,10 +145,9 @@ fn flip_records(file: &mut [u8], f: Fields, set: &[u8], row: &mut [u8])
 {
     let m = f.variants;
     let n = f.samples;
-    let mut v = 0;
     let mut start = first_record(f);
     let mut h = 0;
-    while v < m {
+    for v in 0..m {
         let record_type = type_of(&file[..], f, FileVariant(v));
         let end = start + size_of(&file[..], f, FileVariant(v));
         let p = Place {
@@ -162,7 +159,6 @@ fn flip_records(file: &mut [u8], f: Fields, set: &[u8], row: &mut [u8])
         let leant = leans_if_any(&file[..], f, FileVariant(v + 1));
         h = flip_record(file, p, n, own, leant, h, row);
         start = end;
-        v = v + 1;
     }
     clear(row, n);
 }
@@ -175,13 +171,10 @@ fn any_phased(file: &[u8], f: Fields) -> bool
     if f.form % 16 < 4 {
         return false;
     }
-    let m = f.variants;
-    let mut v = 0;
-    while v < m {
+    for v in 0..f.variants {
         if type_phased(type_of(file, f, FileVariant(v))) {
             return true;
         }
-        v = v + 1;
     }
     false
 }

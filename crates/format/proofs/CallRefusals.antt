@@ -13,7 +13,9 @@ use Rattle.format.specs.Base.{pick, Bytes, Out, naming, need_of}
 use Rattle.format.specs.Limits.{most_samples}
 use Rattle.format.specs.Classes.{header_numbers, record_numbers, writer_numbers, phased_writer_numbers, among}
 use Rattle.format.specs.PairCode.{Coded, coded, not_coded, code_numbered}
-use Rattle.format.specs.Track.{Kind, array, paired, against_anchor, against_category, no_kind, kind, leans, Track, track_bytes}
+use Rattle.format.specs.declared.Kind.{Kind}
+use Rattle.format.specs.declared.Kind.TheVariants.{Array, Paired, AgainstAnchor, AgainstCategory, NoKind}
+use Rattle.format.specs.Track.{kind, leans, Track, track_bytes}
 use Rattle.format.specs.Phase.{first_of, rest_of}
 use Rattle.format.specs.Body.{Body, body_bytes, body_categories, read_body, type_leans}
 use Rattle.format.specs.Variant.{file_variant, next_variant, in_block, anchor, no_variant}
@@ -173,15 +175,15 @@ WriteNumber number = Among writer_numbers number
 
 track_for_refusals : (k : Kind) (code : ℕ) (lent categories : List ℕ) → Refuses WriteNumber (kind_track k code lent categories)
 unfolding kind_track
-track_for_refusals array code lent categories = refuses_need WriteNumber (eqb code 0) _ _ _ refl tt
-track_for_refusals paired code lent categories = go (code_numbered code)
+track_for_refusals Array code lent categories = refuses_need WriteNumber (eqb code 0) _ _ _ refl tt
+track_for_refusals Paired code lent categories = go (code_numbered code)
   where
     go : (found : Coded) → Refuses WriteNumber (pair_track categories found)
     go (coded c) = tt
     go not_coded = refl
-track_for_refusals (against_anchor inverted) code lent categories = refuses_need WriteNumber (eqb code 0) _ _ _ refl tt
-track_for_refusals (against_category base) code lent categories = refuses_need WriteNumber (eqb code 0) _ _ _ refl tt
-track_for_refusals no_kind code lent categories = refl
+track_for_refusals (AgainstAnchor inverted) code lent categories = refuses_need WriteNumber (eqb code 0) _ _ _ refl tt
+track_for_refusals (AgainstCategory base) code lent categories = refuses_need WriteNumber (eqb code 0) _ _ _ refl tt
+track_for_refusals NoKind code lent categories = refl
 
 module _ (class : List ℕ) (t : every (among class) writer_numbers ≡ true) where
   -- a class that has the writer's numbers

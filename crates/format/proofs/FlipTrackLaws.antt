@@ -10,7 +10,8 @@ use Rattle.format.specs.Base.{pick}
 use Rattle.format.specs.Category.{exchange_if, exchange_all, just_one}
 use Rattle.format.specs.Difflist.{Entry, Rising}
 use Rattle.format.specs.PairCode.{pair, category_of}
-use Rattle.format.specs.Track.{against_category, kind, Track, plain, one_bit, leaning, sparse, track_leans, off_pair, off_category, off_anchor, rule}
+use Rattle.format.specs.declared.Kind.TheVariants.{AgainstCategory}
+use Rattle.format.specs.Track.{kind, Track, plain, one_bit, leaning, sparse, track_leans, off_pair, off_category, off_anchor, rule}
 use Rattle.format.specs.Track.{Fits, apply, track_categories, revalue, image_if, flip_track}
 use Rattle.format.specs.Phase.{heterozygous_count, Phases, PhasesObey, phases_over, flip_phases}
 use Rattle.format.specs.Body.{Body, body_leans, body_categories, track_heterozygous, BodyFits, body_reading, exchange_reading, flip_body}
@@ -38,8 +39,8 @@ rising_revalued N may new b k least (e ∷ es) r = (
 )
 
 -- what kinds 4, 6 and 7 list against, exchanged, has a kind too
-category_exchanged : (b : Bool) (category : ℕ) → kind (suc (suc (suc (suc category)))) ≡ against_category category
-    → kind (suc (suc (suc (suc (exchange_if b category))))) ≡ against_category (exchange_if b category)
+category_exchanged : (b : Bool) (category : ℕ) → kind (suc (suc (suc (suc category)))) ≡ AgainstCategory category
+    → kind (suc (suc (suc (suc (exchange_if b category))))) ≡ AgainstCategory (exchange_if b category)
 category_exchanged false category h = h
 category_exchanged true zero h = refl
 category_exchanged true (suc zero) h = h

@@ -16,7 +16,8 @@ use Rattle.format.specs.Numbers.{numbers_bytes}
 use Rattle.format.specs.Packed.{one, two, packed}
 use Rattle.format.specs.Difflist.{Entry, number_width, heads, sizes_after, size_bytes, values, steps, list_parts, list_bytes}
 use Rattle.format.specs.PairCode.{pair}
-use Rattle.format.specs.Track.{against_category, kind, Track, plain, one_bit, leaning, sparse, track_kind, Fits, bit_number, track_bytes}
+use Rattle.format.specs.declared.Kind.TheVariants.{AgainstCategory}
+use Rattle.format.specs.Track.{kind, Track, plain, one_bit, leaning, sparse, track_kind, Fits, bit_number, track_bytes}
 use Rattle.format.specs.Track.{revalue, flip_track, leans}
 use Rattle.format.specs.Phase.{has_phases, phases_bytes, flip_phases}
 use Rattle.format.specs.Body.{kind_of, type_leans, Body, body_type, body_leans, body_bytes, BodyFits, flip_body, flip_kind, flip_type}
@@ -121,7 +122,7 @@ track_kind_not_5 N anchor (leaning true es) f = refl
 track_kind_not_5 N anchor (leaning false es) f = refl
 track_kind_not_5 N anchor (sparse zero es) f = refl
 track_kind_not_5 N anchor (sparse (suc zero) es) f =
-    let h : kind 5 ≡ against_category 1 = f.0 in
+    let h : kind 5 ≡ AgainstCategory 1 = f.0 in
     let z : ◌≡◌ {A = ℕ} 0 1 = cc in
     absurd (omega arith)
 track_kind_not_5 N anchor (sparse (suc (suc category)) es) f =

@@ -1,5 +1,6 @@
 pub mod AllBelow
 pub mod Rules
+pub mod Exits
 pub mod Naming
 pub mod VarintLaws
 pub mod NumbersLaws

@@ -14,7 +14,9 @@ use Rattle.format.specs.Numbers.{numbers_bytes, read_number, read_numbers, read_
 use Rattle.format.specs.Packed.{Bits, one, two, limit, more, packed, read_packed_after, read_packed}
 use Rattle.format.specs.Difflist.{Entry, Rule, groups, number_width, Parts, read_entry, read_entries, read_first, read_parts, read_list}
 use Rattle.format.specs.PairCode.{Coded, coded, not_coded, code_numbered}
-use Rattle.format.specs.Track.{Kind, array, paired, against_anchor, against_category, no_kind, kind, Track, plain, one_bit, leaning, sparse, off_pair}
+use Rattle.format.specs.declared.Kind.{Kind}
+use Rattle.format.specs.declared.Kind.TheVariants.{Array, Paired, AgainstAnchor, AgainstCategory, NoKind}
+use Rattle.format.specs.Track.{kind, Track, plain, one_bit, leaning, sparse, off_pair}
 use Rattle.format.specs.Track.{off_category, off_anchor, rule, bit_set, as_read, read_pair_code, read_listed, read_kind, read_track}
 use Rattle.format.specs.Phase.{first_count, presence, ones, read_phase_track, phased, read_phases}
 use Rattle.format.specs.Body.{kind_of, type_phased, Body, track_heterozygous, ended, read_body}
@@ -159,18 +161,18 @@ listed_refusals track end N may bs y =
     refuses_map RecordNumber track (read_list (rule N may) (number_width N) end bs) (list_refusals (rule N may) (number_width N) end bs y)
 
 -- by the kind: each that there is
-kind_refusals : (end N : ℕ) (anchor : List ℕ) (k : Kind) (bs : List ℕ) → (k ≡ no_kind → ⊥) → Bytes bs → Refuses RecordNumber (read_kind end N anchor k bs)
+kind_refusals : (end N : ℕ) (anchor : List ℕ) (k : Kind) (bs : List ℕ) → (k ≡ NoKind → ⊥) → Bytes bs → Refuses RecordNumber (read_kind end N anchor k bs)
 unfolding read_kind
-kind_refusals end N anchor array bs h y = refuses_map RecordNumber plain (read_packed end two N bs) (packed_refusals end two N bs)
-kind_refusals end N anchor paired bs h y =
+kind_refusals end N anchor Array bs h y = refuses_map RecordNumber plain (read_packed end two N bs) (packed_refusals end two N bs)
+kind_refusals end N anchor Paired bs h y =
     refuses_bind (IsPairCode bs) RecordNumber (read_pair_code end bs) _ (pair_code_as_written end bs) (pair_code_refusals end bs) (λ c left₁ i.
     let y₁ : Bytes left₁ = (rw i at y).1 in
     refuses_bind (ArePacked one N left₁) RecordNumber (read_packed end one N left₁) _ (packed_as_written end one N left₁ y₁) (packed_refusals end one N left₁)
     (λ bits left₂ g.
     listed_refusals (one_bit c (map bit_set bits)) end N (off_pair c) left₂ (below_after 256 (packed one bits) left₂ (rw g.written at y₁))))
-kind_refusals end N anchor (against_anchor inverted) bs h y = listed_refusals (leaning inverted) end N (off_anchor anchor) bs y
-kind_refusals end N anchor (against_category category) bs h y = listed_refusals (sparse category) end N (off_category category) bs y
-kind_refusals end N anchor no_kind bs h y = absurd (h refl)
+kind_refusals end N anchor (AgainstAnchor inverted) bs h y = listed_refusals (leaning inverted) end N (off_anchor anchor) bs y
+kind_refusals end N anchor (AgainstCategory category) bs h y = listed_refusals (sparse category) end N (off_category category) bs y
+kind_refusals end N anchor NoKind bs h y = absurd (h refl)
 
 -- a phase track with 12 or 18
 phase_track_refusals : (end H : ℕ) (bs : List ℕ) → Refuses RecordNumber (read_phase_track end H bs)
@@ -190,7 +192,7 @@ ended_refusals end body [] = tt
 ended_refusals end body (b ∷ left) = refl
 
 -- a record of a kind that there is is refused with a record's numbers
-pub body_refusals : (end N : ℕ) (anchor : List ℕ) (type : ℕ) (bs : List ℕ) → (kind (kind_of type) ≡ no_kind → ⊥) → Bytes bs
+pub body_refusals : (end N : ℕ) (anchor : List ℕ) (type : ℕ) (bs : List ℕ) → (kind (kind_of type) ≡ NoKind → ⊥) → Bytes bs
     → Refuses RecordNumber (read_body end N anchor type bs)
 unfolding read_body
 body_refusals end N anchor type bs h y =
@@ -201,7 +203,7 @@ body_refusals end N anchor type bs h y =
     ended_refusals end (record { main = track; phases = phases }) left₁))
 
 -- below 8 only 5 is no kind
-kind_there : (number : ℕ) → number < 8 → (number ≡ 5 → ⊥) → kind number ≡ no_kind → ⊥
+kind_there : (number : ℕ) → number < 8 → (number ≡ 5 → ⊥) → kind number ≡ NoKind → ⊥
 kind_there zero l h k = let z : ◌≡◌ {A = ℕ} 0 1 = cc in omega arith
 kind_there (suc zero) l h k = let z : ◌≡◌ {A = ℕ} 0 1 = cc in omega arith
 kind_there (suc (suc zero)) l h k = let z : ◌≡◌ {A = ℕ} 0 1 = cc in omega arith
@@ -213,5 +215,5 @@ kind_there (suc (suc (suc (suc (suc (suc (suc zero))))))) l h k = let z : ◌≡
 kind_there (suc (suc (suc (suc (suc (suc (suc (suc n)))))))) l h k = omega arith
 
 -- what the header allows has a kind that there is
-pub allowed_kind : (i : BlockVariant) (type : ℕ) → type_allowed i type ≡ true → kind (kind_of type) ≡ no_kind → ⊥
+pub allowed_kind : (i : BlockVariant) (type : ℕ) → type_allowed i type ≡ true → kind (kind_of type) ≡ NoKind → ⊥
 allowed_kind i type h k = kind_there (kind_of type) (omega arith) (allowed i type h).2 k

@@ -9,7 +9,9 @@ use Rattle.format.specs.Base.{Below, Out, ok, refused, bind, map_out}
 use Rattle.format.specs.Packed.{one, two, read_packed}
 use Rattle.format.specs.Difflist.{Entry, Rule, Rising, number_width, read_list}
 use Rattle.format.specs.PairCode.{PairCode, category_of}
-use Rattle.format.specs.Track.{Kind, array, paired, against_anchor, against_category, no_kind, kind, leans_kind, Track, plain, one_bit, leaning, sparse}
+use Rattle.format.specs.declared.Kind.{Kind}
+use Rattle.format.specs.declared.Kind.TheVariants.{Array, Paired, AgainstAnchor, AgainstCategory, NoKind}
+use Rattle.format.specs.Track.{kind, leans_kind, Track, plain, one_bit, leaning, sparse}
 use Rattle.format.specs.Track.{off_pair, off_category, off_anchor, rule, Fits, read_kind, apply, track_categories, track_leans}
 use Rattle.format.specs.Track.{read_pair_code, read_listed}
 use Rattle.format.specs.Phase.{heterozygous_count, Phases, PhasesObey, read_phases, phases_over}
@@ -81,11 +83,11 @@ body_row N anchor body f a = track_row N anchor body.main f.0 a
 kind_unused : (end N : ℕ) (anchor other : List ℕ) (k : Kind) (bs : List ℕ) → leans_kind k ≡ false
     → read_kind end N anchor k bs ≡ read_kind end N other k bs
 unfolding read_kind
-kind_unused end N anchor other array bs h = refl
-kind_unused end N anchor other paired bs h = refl
-kind_unused end N anchor other (against_anchor inverted) bs h = never_both refl h
-kind_unused end N anchor other (against_category category) bs h = refl
-kind_unused end N anchor other no_kind bs h = refl
+kind_unused end N anchor other Array bs h = refl
+kind_unused end N anchor other Paired bs h = refl
+kind_unused end N anchor other (AgainstAnchor inverted) bs h = never_both refl h
+kind_unused end N anchor other (AgainstCategory category) bs h = refl
+kind_unused end N anchor other NoKind bs h = refl
 
 -- it stands for the same row
 pub categories_anchor_unused : (N : ℕ) (anchor other : List ℕ) (t : Track) → track_leans t ≡ false
@@ -112,17 +114,17 @@ anything (refused why) = tt
 kind_stands : (end N : ℕ) (anchor : List ℕ) (k : Kind) (bs : List ℕ) → leans_kind k ≡ false
     → Holds (λ (t : Track) (left : List ℕ). track_leans t ≡ false) (read_kind end N anchor k bs)
 unfolding read_kind read_listed
-kind_stands end N anchor array bs h = by_map Any Stands (read_packed end two N bs) plain (anything (read_packed end two N bs)) (λ vs left w. refl)
-kind_stands end N anchor paired bs h =
+kind_stands end N anchor Array bs h = by_map Any Stands (read_packed end two N bs) plain (anything (read_packed end two N bs)) (λ vs left w. refl)
+kind_stands end N anchor Paired bs h =
     by_bind Any Stands (read_pair_code end bs) _ (anything (read_pair_code end bs)) (λ c left₁ w.
     by_bind Any Stands (read_packed end one N left₁) _ (anything (read_packed end one N left₁)) (λ bits left₂ w₂.
     let list : Out (List Entry) = read_list (rule N (off_pair c)) (number_width N) end left₂ in
     by_map Any Stands list _ (anything list) (λ es left w₃. refl)))
-kind_stands end N anchor (against_anchor inverted) bs h = never_both refl h
-kind_stands end N anchor (against_category category) bs h =
+kind_stands end N anchor (AgainstAnchor inverted) bs h = never_both refl h
+kind_stands end N anchor (AgainstCategory category) bs h =
     let list : Out (List Entry) = read_list (rule N (off_category category)) (number_width N) end bs in
     by_map Any Stands list _ (anything list) (λ es left w. refl)
-kind_stands end N anchor no_kind bs h = tt
+kind_stands end N anchor NoKind bs h = tt
 
 -- the tracks after the main one are read alike where its categories are the same
 after_unused : (end N : ℕ) (anchor other : List ℕ) (type : ℕ) (m : Out Track)

@@ -14,7 +14,8 @@ use Rattle.format.specs.Packed.{one, two, packed, read_packed}
 use Rattle.format.specs.Difflist.{Entry, Rising, number_width, list_bytes, read_list}
 use Rattle.format.specs.PairCode.{PairCode, pair, Coded, coded, not_coded, code_numbered}
 use Rattle.format.specs.Track.{kind, Track, plain, one_bit, leaning, sparse, track_kind, off_pair, off_category, off_anchor, rule, Fits, bit_number}
-use Rattle.format.specs.Track.{bit_set, track_bytes, as_read, read_pair_code, read_listed, read_kind, read_track, track_leans, against_category, leans}
+use Rattle.format.specs.declared.Kind.TheVariants.{AgainstCategory}
+use Rattle.format.specs.Track.{bit_set, track_bytes, as_read, read_pair_code, read_listed, read_kind, read_track, track_leans, leans}
 use Rattle.format.proofs.Rules.{Holds, by_test, by_map, by_bind, below_after}
 use Rattle.format.proofs.PackedLaws.{packed_read_back, packed_as_written, ArePacked}
 use Rattle.format.proofs.DifflistLaws.{IsList, list_read_back, list_as_written}
@@ -23,7 +24,7 @@ use Rattle.format.proofs.PairLaws.{IsCode, code_read_back, code_as_written}
 -- ---- kinds
 
 -- what kinds 4, 6 and 7 list against is a category
-pub category_below : (category : ℕ) → kind (suc (suc (suc (suc category)))) ≡ against_category category → category < 4
+pub category_below : (category : ℕ) → kind (suc (suc (suc (suc category)))) ≡ AgainstCategory category → category < 4
 category_below zero h = lit< tt
 category_below (suc zero) h = lit< tt
 category_below (suc (suc zero)) h = lit< tt

@@ -13,7 +13,9 @@ use Rattle.format.specs.Base.{pick, ok}
 use Rattle.format.specs.Category.{exchange_all}
 use Rattle.format.specs.Difflist.{Entry, Rule, Rising}
 use Rattle.format.specs.PairCode.{PairCode, pair, category_of, in_pair, coded}
-use Rattle.format.specs.Track.{Kind, against_category, kind, leans, Track, plain, one_bit, leaning, sparse, track_kind, Fits, rule, off_pair}
+use Rattle.format.specs.declared.Kind.{Kind}
+use Rattle.format.specs.declared.Kind.TheVariants.{AgainstCategory}
+use Rattle.format.specs.Track.{kind, leans, Track, plain, one_bit, leaning, sparse, track_kind, Fits, rule, off_pair}
 use Rattle.format.specs.Track.{off_category, off_anchor, put, apply, track_categories}
 use Rattle.format.specs.Writer.{differences, bits_for, pair_track, kind_track, track_for, track_code, cleared}
 use Rattle.format.proofs.Rules.{never_both, by_test}
@@ -163,7 +165,7 @@ track_back N anchor (leaning true es) f l n = ap (λ (xs : List Entry). ok (lean
 track_back N anchor (leaning false es) f l n = ap (λ (xs : List Entry). ok (leaning false xs) []) (lean_back N anchor false es f (l refl))
 track_back N anchor (sparse b es) f l n = go b f.0 (sparse_back N _ b es n f.1)
   where
-    go : (b : ℕ) → kind (suc (suc (suc (suc b)))) ≡ against_category b
+    go : (b : ℕ) → kind (suc (suc (suc (suc b)))) ≡ AgainstCategory b
         → differences 0 (replicate (length (apply es (replicate N b))) b) (apply es (replicate N b)) ≡ es
         → kind_track (kind (suc (suc (suc (suc b))))) 0 (pick (leans (suc (suc (suc (suc b))))) anchor []) (apply es (replicate N b)) ≡ ok (sparse b es) []
     go b k e =

@@ -12,7 +12,8 @@ use borrow.Author.Tests.{ne_eqb, eqb-true}
 use Rattle.format.specs.Base.{pick, Below}
 use Rattle.format.specs.Category.{exchange_all}
 use Rattle.format.specs.PairCode.{PairCode, pair, category_of, in_pair, Coded, coded, not_coded, code_numbered}
-use Rattle.format.specs.Track.{against_category, kind, leans, Track, one_bit, leaning, sparse, track_kind, Fits, off_pair, off_category, off_anchor}
+use Rattle.format.specs.declared.Kind.TheVariants.{AgainstCategory}
+use Rattle.format.specs.Track.{kind, leans, Track, one_bit, leaning, sparse, track_kind, Fits, off_pair, off_category, off_anchor}
 use Rattle.format.specs.Track.{track_categories}
 use Rattle.format.specs.Writer.{differences, bits_for, pair_track, kind_track, track_for}
 use Rattle.format.proofs.Rules.{Holds, by_need}
@@ -86,7 +87,7 @@ writes_leaning inverted number lent categories q e f =
       whole = refl;
     }
 
-writes_sparse : (base number : ℕ) (lent categories : List ℕ) → suc (suc (suc (suc base))) ≡ number → kind (suc (suc (suc (suc base)))) ≡ against_category base
+writes_sparse : (base number : ℕ) (lent categories : List ℕ) → suc (suc (suc (suc base))) ≡ number → kind (suc (suc (suc (suc base)))) ≡ AgainstCategory base
     → Below 4 categories → Writes number lent categories (sparse base (differences 0 (replicate (length categories) base) categories)) []
 writes_sparse base number lent categories q k f =
     let n : ℕ = length categories in

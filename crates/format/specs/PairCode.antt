@@ -1,9 +1,7 @@
 -- The six pair codes.
 -- Assumes nothing.
-use Rattle.std.specs.Prelude.{ℕ, Bool, true, false, ◌||◌, List, [], ◌∷◌, eqb, get_or}
+use Rattle.std.specs.Prelude.{ℕ, Bool, true, false, ◌||◌, List, [], ◌∷◌, eqb, get_or, Option, Some, None}
 use Rattle.format.specs.declared.Pair.{Pair}
-use Rattle.format.specs.declared.PairFound.{PairFound}
-use Rattle.format.specs.declared.PairFound.TheVariants as known
 use Rattle.format.specs.Base.{pick}
 
 pub data PairCode : Type 0 where
@@ -53,9 +51,9 @@ code_numbered number = seek number pair_codes
 abbrev pub pair_at : ℕ → Pair
 pair_at i = pair (get_or pair_codes i code_9)
 
-abbrev pub as_found : Coded → PairFound
-as_found (coded c) = known.Known (pair c)
-as_found not_coded = known.Unknown
+abbrev pub as_found : Coded → Option Pair
+as_found (coded c) = Some (pair c)
+as_found not_coded = None
 
-abbrev pub found : ℕ → PairFound
+abbrev pub found : ℕ → Option Pair
 found number = as_found (code_numbered number)

@@ -1,17 +1,9 @@
 -- For each public call the reply and the later content of every buffer it was lent, for all inputs. K is the number of variants to a block.
 -- Assumes nothing.
-use Rattle.std.specs.Prelude.{ℕ, ◌+◌, ◌/◌, ◌%◌, ◌^◌, Bool, true, false, ◌&&◌, List, [], ◌++◌, length, drop, get_or, replicate, eqb, ltb, leb}
+use Rattle.std.specs.Prelude.{ℕ, ◌+◌, ◌/◌, ◌%◌, ◌^◌, Bool, true, false, ◌&&◌, List, [], ◌++◌, length, drop, get_or, replicate, eqb, ltb, leb, Result, Ok, Err, ⊤}
 use Rattle.format.specs.declared.FileVariant.{FileVariant}
 use Rattle.format.specs.declared.Fields.{Fields}
 use Rattle.format.specs.declared.Refusal.{Refusal}
-use Rattle.format.specs.declared.HeaderReply.{HeaderReply}
-use Rattle.format.specs.declared.HeaderReply.TheVariants as header
-use Rattle.format.specs.declared.Reply.{Reply}
-use Rattle.format.specs.declared.Reply.TheVariants as done
-use Rattle.format.specs.declared.LookupReply.{LookupReply}
-use Rattle.format.specs.declared.LookupReply.TheVariants as lookup
-use Rattle.format.specs.declared.WriteReply.{WriteReply}
-use Rattle.format.specs.declared.WriteReply.TheVariants as write
 use Rattle.format.specs.Base.{pick, Out, ok, refused, refusal, named, bind, map_out, need_of}
 use Rattle.format.specs.Classes.{header_numbers, call_numbers, among}
 use Rattle.format.specs.Variant.{file_variant, no_variant}
@@ -49,27 +41,15 @@ abbrev pub given_or : {A : Type 0} → A → Out A → A
 given_or other out = given (λ a. a) other out
 
 -- a reply's refusal, with the variant that it names
-abbrev pub named_reply : FileVariant → Reply → Reply
-named_reply v done.Accepted = done.Accepted
-named_reply v (done.Refused why) = done.Refused (named v why)
+abbrev pub named_reply : FileVariant → Result ⊤ Refusal → Result ⊤ Refusal
+named_reply v (Ok tt) = Ok tt
+named_reply v (Err why) = Err (named v why)
 
 -- 01, Forms for each place: "Where an answer is an enum, a definition gives this paper's number and values for each of its cases". The `-left` of each
 -- call has the numbers and values of its answer, and the lent buffers as the call leaves them.
-abbrev pub header_answer : HeaderReply → Out Fields
-header_answer (header.Accepted fields) = ok fields []
-header_answer (header.Refused why) = refused why
-
-abbrev pub plain_answer : Reply → Out (Unit {0})
-plain_answer done.Accepted = ok tt []
-plain_answer (done.Refused why) = refused why
-
-abbrev pub lookup_answer : LookupReply → Out ℕ
-lookup_answer (lookup.Category category) = ok category []
-lookup_answer (lookup.Refused why) = refused why
-
-abbrev pub write_answer : WriteReply → Out ℕ
-write_answer (write.Count count) = ok count []
-write_answer (write.Refused why) = refused why
+abbrev pub answer : {A : Type 0} → Result A Refusal → Out A
+answer (Ok value) = ok value []
+answer (Err why) = refused why
 
 -- 01: "After 1 to 11 and 21 the work area is unchanged; after every other reply its first N bytes are zero and the rest unchanged."
 abbrev pub keeps_work : ℕ → Bool
@@ -109,8 +89,8 @@ no_fields = record { mode = 0; variants = 0; samples = 0; form = 0 }
 abbrev pub summary : Out Layout → Summary
 summary out = record { verdict = verdict out; fields = given (λ (l : Layout). fields_of (fixed_of l)) no_fields out }
 
-abbrev pub header_left : HeaderReply → Summary
-header_left reply = record { verdict = verdict (header_answer reply); fields = given_or no_fields (header_answer reply) }
+abbrev pub header_left : Result Fields Refusal → Summary
+header_left reply = record { verdict = verdict (answer reply); fields = given_or no_fields (answer reply) }
 
 unfoldable pub header_call : ℕ → List ℕ → Summary
 header_call K file = summary (read_layout K file)
@@ -119,7 +99,7 @@ pub record Checked : Type 0 where
   pub reply : Summary
   pub work : List ℕ
 
-abbrev pub check_left : HeaderReply → List ℕ → Checked
+abbrev pub check_left : Result Fields Refusal → List ℕ → Checked
 check_left reply work = record { reply = header_left reply; work = work }
 
 -- every record of a layout is checked
@@ -146,8 +126,8 @@ pub record Read : Type 0 where
   pub output : List ℕ
   pub work : List ℕ
 
-abbrev pub read_left : Reply → List ℕ → List ℕ → Read
-read_left reply output work = record { verdict = verdict (plain_answer reply); output = output; work = work }
+abbrev pub read_left : Result ⊤ Refusal → List ℕ → List ℕ → Read
+read_left reply output work = record { verdict = verdict (answer reply); output = output; work = work }
 
 -- `what` of variant v's body
 abbrev pub out_as : {A : Type 0} → (ℕ → List ℕ → Body → A) → ℕ → List ℕ → FileVariant → List ℕ → List ℕ → Out A
@@ -177,8 +157,8 @@ pub record Lookup : Type 0 where
   pub category : ℕ
   pub work : List ℕ
 
-abbrev pub lookup_left : LookupReply → List ℕ → Lookup
-lookup_left reply work = record { verdict = verdict (lookup_answer reply); category = given_or 0 (lookup_answer reply); work = work }
+abbrev pub lookup_left : Result ℕ Refusal → List ℕ → Lookup
+lookup_left reply work = record { verdict = verdict (answer reply); category = given_or 0 (answer reply); work = work }
 
 -- 02, Ask 2: the variant is named "by 11 for a sample of a variant below M"
 abbrev pub need_sample : {A : Type 0} → FileVariant → ℕ → Layout → Out A → Out A
@@ -237,8 +217,8 @@ pub record Written : Type 0 where
   pub count : ℕ
   pub output : List ℕ
 
-abbrev pub write_left : WriteReply → List ℕ → Written
-write_left reply output = record { verdict = verdict (write_answer reply); count = given_or 0 (write_answer reply); output = output }
+abbrev pub write_left : Result ℕ Refusal → List ℕ → Written
+write_left reply output = record { verdict = verdict (answer reply); count = given_or 0 (answer reply); output = output }
 
 -- 01: "It replies with the byte count; bytes past it are untouched. A refusal has count 0."
 abbrev pub written : Out (List ℕ) → List ℕ → Written
@@ -269,8 +249,8 @@ pub record Flipped : Type 0 where
   pub file : List ℕ
   pub work : List ℕ
 
-abbrev pub flip_left : Reply → List ℕ → List ℕ → Flipped
-flip_left reply file work = record { verdict = verdict (plain_answer reply); file = file; work = work }
+abbrev pub flip_left : Result ⊤ Refusal → List ℕ → List ℕ → Flipped
+flip_left reply file work = record { verdict = verdict (answer reply); file = file; work = work }
 
 -- 01: "For flips 21 comes next." Then the records, all of them
 abbrev pub flip_out : ℕ → List ℕ → List ℕ → List ℕ → Out Layout

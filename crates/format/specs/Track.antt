@@ -1,6 +1,8 @@
 -- A record's main track: the four shapes it can have, its bytes, its reader, the categories it stands for, its flip.
 -- Assumes nothing.
 use Rattle.std.specs.Prelude.{◌≡◌, ℕ, suc, ◌-◌, Bool, true, false, not, ◌&&◌, List, [], ◌∷◌, ◌++◌, map, length, get_or, set, replicate, eqb}
+use Rattle.format.specs.declared.Kind.{Kind}
+use Rattle.format.specs.declared.Kind.TheVariants.{Array, Paired, AgainstAnchor, AgainstCategory, NoKind}
 use Rattle.format.specs.Base.{pick, Out, ok, refuse, bind, map_out, Below}
 use Rattle.format.specs.Category.{exchange_if, exchange_all, just_one}
 use Rattle.format.specs.Packed.{one, two, packed, read_packed}
@@ -9,28 +11,23 @@ use Rattle.format.specs.PairCode.{PairCode, pair, image, category_of, in_pair, C
 
 -- ---- kinds, by their numbers: 0 to 7, the low three bits of a record's type
 
--- 01, Categories and kinds: 0, "the packed array"; 1, a pair; 2 and 3, "against the anchor", 3 inverted; 4, 6, 7, "outside category 0, 2, 3"
-pub data Kind : Type 0 where
-  array : Kind
-  paired : Kind
-  against_anchor : Bool → Kind
-  against_category : ℕ → Kind
-  no_kind : Kind
-
 abbrev pub kinds : List Kind
 kinds =
-    array ∷ paired ∷ against_anchor false ∷ against_anchor true ∷ against_category 0 ∷ no_kind ∷ against_category 2 ∷ against_category 3 ∷ []
+    Array ∷ Paired ∷ AgainstAnchor false ∷ AgainstAnchor true ∷ AgainstCategory 0 ∷ NoKind ∷ AgainstCategory 2 ∷ AgainstCategory 3 ∷ []
 
 abbrev pub kind : ℕ → Kind
-kind number = get_or kinds number no_kind
+kind number = get_or kinds number NoKind
+
+abbrev pub KindNumbered : ℕ → Kind → Type 0
+KindNumbered number k = k ≡ kind number
 
 -- whether a record of the kind leans on an anchor: 2 and 3
 abbrev pub leans_kind : Kind → Bool
-leans_kind array = false
-leans_kind paired = false
-leans_kind (against_anchor inverted) = true
-leans_kind (against_category category) = false
-leans_kind no_kind = false
+leans_kind Array = false
+leans_kind Paired = false
+leans_kind (AgainstAnchor inverted) = true
+leans_kind (AgainstCategory category) = false
+leans_kind NoKind = false
 
 abbrev pub leans : ℕ → Bool
 leans number = leans_kind (kind number)
@@ -76,7 +73,7 @@ abbrev pub Fits : ℕ → List ℕ → Track → Type 0
 Fits N anchor (plain categories) = (length categories ≡ N) × Below 4 categories
 Fits N anchor (one_bit c bits es) = (length bits ≡ N) × Rising (rule N (off_pair c)) 0 es
 Fits N anchor (leaning inverted es) = Rising (rule N (off_anchor anchor)) 0 es
-Fits N anchor (sparse category es) = (kind (suc (suc (suc (suc category)))) ≡ against_category category) × Rising (rule N (off_category category)) 0 es
+Fits N anchor (sparse category es) = (kind (suc (suc (suc (suc category)))) ≡ AgainstCategory category) × Rising (rule N (off_category category)) 0 es
 
 -- ---- its bytes
 
@@ -109,13 +106,13 @@ read_listed track end N may bs = map_out track (read_list (rule N may) (number_w
 
 -- the header lets no other kind through (8): laws `body_refusals` and `allowed_kind`
 unfoldable pub read_kind : ℕ → ℕ → List ℕ → Kind → List ℕ → Out Track
-read_kind end N anchor array bs = map_out plain (read_packed end two N bs)
-read_kind end N anchor paired bs =
+read_kind end N anchor Array bs = map_out plain (read_packed end two N bs)
+read_kind end N anchor Paired bs =
     bind (read_pair_code end bs) (λ c left₁.
     bind (read_packed end one N left₁) (λ bits left₂. read_listed (one_bit c (map bit_set bits)) end N (off_pair c) left₂))
-read_kind end N anchor (against_anchor inverted) bs = read_listed (leaning inverted) end N (off_anchor anchor) bs
-read_kind end N anchor (against_category category) bs = read_listed (sparse category) end N (off_category category) bs
-read_kind end N anchor no_kind bs = refuse 8 0
+read_kind end N anchor (AgainstAnchor inverted) bs = read_listed (leaning inverted) end N (off_anchor anchor) bs
+read_kind end N anchor (AgainstCategory category) bs = read_listed (sparse category) end N (off_category category) bs
+read_kind end N anchor NoKind bs = refuse 8 0
 
 abbrev pub read_track : ℕ → ℕ → List ℕ → ℕ → List ℕ → Out Track
 read_track end N anchor number bs = read_kind end N anchor (kind number) bs

@@ -6,7 +6,9 @@ use Rattle.format.specs.Limits.{most_samples}
 use Rattle.format.specs.Category.{exchange_all}
 use Rattle.format.specs.Difflist.{Entry}
 use Rattle.format.specs.PairCode.{PairCode, pair, category_of, Coded, coded, not_coded, code_numbered}
-use Rattle.format.specs.Track.{Kind, array, paired, against_anchor, against_category, no_kind, kind, leans, Track, plain, one_bit, leaning, sparse}
+use Rattle.format.specs.declared.Kind.{Kind}
+use Rattle.format.specs.declared.Kind.TheVariants.{Array, Paired, AgainstAnchor, AgainstCategory, NoKind}
+use Rattle.format.specs.Track.{kind, leans, Track, plain, one_bit, leaning, sparse}
 use Rattle.format.specs.Track.{track_bytes, put}
 use Rattle.format.specs.Phase.{heterozygous, PhaseTrack, some_unphased, first_of, rest_of, gathered, phased}
 use Rattle.format.specs.Body.{Body, body_bytes}
@@ -33,13 +35,13 @@ pair_track categories not_coded = refuse 19 0
 
 -- 01, Replies: 19, "kind or pair code not allowed"; The writer: "a pair code (0 unless kind 1)". Kind 3 lists the categories before inversion.
 unfoldable pub kind_track : Kind → ℕ → List ℕ → List ℕ → Out Track
-kind_track array code anchor categories = need (eqb code 0) 19 0 (ok (plain categories) [])
-kind_track paired code anchor categories = pair_track categories (code_numbered code)
-kind_track (against_anchor inverted) code anchor categories =
+kind_track Array code anchor categories = need (eqb code 0) 19 0 (ok (plain categories) [])
+kind_track Paired code anchor categories = pair_track categories (code_numbered code)
+kind_track (AgainstAnchor inverted) code anchor categories =
     need (eqb code 0) 19 0 (ok (leaning inverted (differences 0 anchor (exchange_all inverted categories))) [])
-kind_track (against_category base) code anchor categories =
+kind_track (AgainstCategory base) code anchor categories =
     need (eqb code 0) 19 0 (ok (sparse base (differences 0 (replicate (length categories) base) categories)) [])
-kind_track no_kind code anchor categories = refuse 19 0
+kind_track NoKind code anchor categories = refuse 19 0
 
 abbrev pub track_for : ℕ → ℕ → List ℕ → List ℕ → Out Track
 track_for number code anchor categories = kind_track (kind number) code anchor categories

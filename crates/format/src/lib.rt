@@ -1,9 +1,10 @@
-// What a PGEN file is made of, as values (a pair code's pair, the two variant numbers), and what the public calls answer.
+// What a PGEN file is made of, as values (a pair code's pair, the two variant numbers), and the refusal that a call may answer.
 // What they mean is defined in specs/; the laws of those definitions are in proofs/.
 #![tactic(auto)]
 
 ghost use Rattle.std.specs.Prelude.{◌≡◌};
 ghost use Rattle.format.specs.Base.{refusal, named};
+ghost use Rattle.format.specs.Track.{KindNumbered};
 ghost use Rattle.format.specs.Reply.{named_reply};
 
 // 01, Categories and kinds: a pair code, its two categories, its code once 0 and 2 are exchanged, and whether that turns the pair's order.
@@ -16,11 +17,33 @@ pub struct Pair {
     pub turns: bool,
 }
 
-// The pair that a code byte stands for, or that it is none of the six.
+// 01, Categories and kinds: 0, "the packed array"; 1, a pair; 2 and 3, "against the anchor", 3 inverted; 4, 6, 7, "outside category 0, 2, 3"; the header
+// lets no record of kind 5 through.
 #[derive(Clone, Copy)]
-pub enum PairFound {
-    Known(Pair),
-    Unknown,
+pub enum Kind {
+    Array,
+    Paired,
+    AgainstAnchor(bool),
+    AgainstCategory(u8),
+    NoKind,
+}
+
+// The kind that has a number.
+impl From<u8> for Kind {
+    ghost from_gives = { KindNumbered };
+
+    fn from(number: u8) -> Self {
+        match number {
+            0 => Kind::Array,
+            1 => Kind::Paired,
+            2 => Kind::AgainstAnchor(false),
+            3 => Kind::AgainstAnchor(true),
+            4 => Kind::AgainstCategory(0),
+            6 => Kind::AgainstCategory(2),
+            7 => Kind::AgainstCategory(3),
+            _ => Kind::NoKind,
+        }
+    }
 }
 
 // 01, What the software covers: "samples N from 1 to 65,536; variants M from 1 to 16,777,216"
@@ -38,19 +61,6 @@ pub struct FileVariant(pub usize);
 
 #[derive(Clone, Copy)]
 pub struct BlockVariant(pub usize);
-
-// The first variant of a block, or of a file, that is looked for; or that there is none: no number past the last stands for that.
-#[derive(Clone, Copy)]
-pub enum FoundInBlock {
-    At(BlockVariant),
-    Nowhere,
-}
-
-#[derive(Clone, Copy)]
-pub enum FoundInFile {
-    At(FileVariant),
-    Nowhere,
-}
 
 // 01, The header: "Bytes 0 to 2: 0x6c 0x1b and the mode. Bytes 3 to 6: M. Bytes 7 to 10: N. Byte 11: the form." All but the first two, read once.
 #[derive(Clone, Copy)]
@@ -94,40 +104,12 @@ pub fn named(variant: FileVariant, why: Refusal) -> Refusal
     refusal_of(variant, why.number, why.place)
 }
 
-// 01, Replies: what a header check and a whole-file check give.
-#[derive(Clone, Copy)]
-pub enum HeaderReply {
-    Accepted(Fields),
-    Refused(Refusal),
-}
-
-// What a read and a flip give.
-#[derive(Clone, Copy)]
-pub enum Reply {
-    Accepted,
-    Refused(Refusal),
-}
-
 // 02, Ask 2: what a record is refused for names "the variant in whose record or type the fault lies".
-pub fn named_reply(variant: FileVariant, reply: Reply) -> Reply
+pub fn named_reply(variant: FileVariant, reply: Result<(), Refusal>) -> Result<(), Refusal>
     ensures { result ≡ named_reply variant reply }
 {
     match reply {
-        Reply::Accepted => Reply::Accepted,
-        Reply::Refused(why) => Reply::Refused(named(variant, why)),
+        Ok(()) => Ok(()),
+        Err(why) => Err(named(variant, why)),
     }
-}
-
-// What a lookup gives.
-#[derive(Clone, Copy)]
-pub enum LookupReply {
-    Category(u8),
-    Refused(Refusal),
-}
-
-// What the writer gives.
-#[derive(Clone, Copy)]
-pub enum WriteReply {
-    Count(usize),
-    Refused(Refusal),
 }

@@ -9,6 +9,7 @@ use lib.Dec.{eqb, ltb, lit<}
 use mir.Syntax.{w64}
 use mir.Val.{Fits}
 use native.Mathlib.Omega.{arith}
+use Rattle.std.specs.Int.{div_ceil}
 use Rattle.format.specs.declared.Fields.{Fields}
 use Rattle.format.specs.Base.{pick}
 use Rattle.format.specs.Packed.{one, packed_size}
@@ -30,9 +31,9 @@ first_place : (f : Fixed) → unblocked f.mode ≡ false → block_place 65536 f
 first_place f e = place_zero f ∙ rw (block_count_is 65536 f e) refl
 
 -- the numbers that code computes
-abbrev read_blocks : Fields → ℕ → Blocks
-read_blocks f full = record {
-  at = 12 + 8 * ((f.variants + 65535) / 65536);
+abbrev read_blocks : Fields → ℕ → ℕ → Blocks
+read_blocks f blocks full = record {
+  at = 12 + 8 * blocks;
   full = full;
   half = ltb (f.form % 16) 4;
   width = f.form % 4 + 1;
@@ -40,11 +41,14 @@ read_blocks f full = record {
 }
 
 -- are those of the header
-module _ (f : Fields) {full : ℕ} (d : full ≡ block_size (form_from (ltb (f.form % 16) 4) (f.form % 4 + 1) (eqb (f.form / 64) 3)) 65536) where
-  pub blocks_are : unblocked f.mode ≡ false → ◌≡◌ {A = Blocks} (read_blocks f full) (blocks_of (fixed f))
-  blocks_are e = rw (d, ← first_place (fixed f) e, add-one) refl
+module _ (f : Fields) {blocks : ℕ} (c : blocks ≡ div_ceil f.variants 65536) {full : ℕ}
+    (d : full ≡ block_size (form_from (ltb (f.form % 16) 4) (f.form % 4 + 1) (eqb (f.form / 64) 3)) 65536) where
+  pub blocks_are : unblocked f.mode ≡ false → ◌≡◌ {A = Blocks} (read_blocks f blocks full) (blocks_of (fixed f))
+  blocks_are e =
+      let n : blocks ≡ (f.variants + 65535) / 65536 = omega arith in
+      rw (n, d, ← first_place (fixed f) e, add-one) refl
 
-  pub blocks_small : f.variants ≤ 16777216 → BlocksSmall (read_blocks f full)
+  pub blocks_small : f.variants ≤ 16777216 → BlocksSmall (read_blocks f blocks full)
   blocks_small l = record {
     at_most = omega arith;
     full_most = rw d (block_most 65536 (ltb (f.form % 16) 4) (f.form % 4 + 1) (eqb (f.form / 64) 3) (omega arith));

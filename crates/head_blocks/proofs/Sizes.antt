@@ -1,7 +1,7 @@
 -- The fixed fields by index, and how many bytes a block's arrays take.
 -- Assumes nothing.
 use mathlib.Core.Path.{◌≡◌, refl}
-use Prim.Native.Nat.{ℕ, ◌+◌, ◌*◌, ◌/◌, ◌≤◌}
+use Prim.Native.Nat.{ℕ, ◌+◌, ◌*◌, ◌≤◌}
 use native.Mathlib.Nat.{div-one, mul-le-mul_right}
 use mathlib.Core.Bool.{Bool, true, false}
 use mathlib.Core.List.{List}
@@ -22,18 +22,6 @@ pub fields_are : (bs : List ℕ) (m n : ℕ) → m ≡ number_at 4 (drop 3 bs) �
     → ◌≡◌ {A = Fields} (record { mode = get_or bs 2 0; variants = m; samples = n; form = get_or bs 11 0 }) (fields_of (fixed_at bs))
 unfolding fixed_at
 fields_are bs m n e d = rw (low_byte 2 bs refl, low_byte 11 bs refl, e, d) refl
-
--- flags
-pub stored_size : (n : ℕ) (stored : Bool) → stored ≡ true → ◌≡◌ {A = ℕ} ((n + 7) / 8) (packed_size one (pick stored n 0))
-stored_size n stored e = rw e refl
-
-pub stored_small : (n : ℕ) → (n + 7) / 8 ≤ n
-stored_small n = omega arith
-
-pub absent_size : (n : ℕ) (stored : Bool) → stored ≡ false → ◌≡◌ {A = ℕ} 0 (packed_size one (pick stored n 0))
-absent_size n stored e = rw e refl
-
-pub ruleset flags_laws = (stored_size, stored_small, absent_size)
 
 -- types
 pub types_small : (n : ℕ) (half : Bool) → packed_size (pick half four eight) n ≤ n

@@ -1,6 +1,6 @@
 -- What the numbers that the code reads from a header stand for.
 -- Assumes nothing.
-use Rattle.std.specs.Prelude.{◌≡◌, ℕ, suc, min, ◌+◌, ◌-◌, ◌*◌, ◌/◌, ◌%◌, ◌≤◌, ◌<◌, Bool, List, [], length, eqb, ltb}
+use Rattle.std.specs.Prelude.{◌≡◌, ℕ, suc, min, ◌+◌, ◌-◌, ◌*◌, ◌/◌, ◌%◌, ◌≤◌, ◌<◌, Bool, List, [], length, eqb, ltb, Option, Some, None}
 use Rattle.format.specs.Base.{pick, Out, ok, refuse}
 use Rattle.format.specs.Limits.{most_variants, variants_to_a_block}
 use Rattle.format.specs.Packed.{four, eight}
@@ -9,8 +9,6 @@ use Rattle.format.specs.Header.{block_place}
 use Rattle.head_index.specs.Known.{Known}
 use Rattle.format.specs.declared.Fields.{Fields}
 use Rattle.head_blocks.specs.declared.Blocks.{Blocks}
-use Rattle.head_blocks.specs.declared.Unused.{Unused}
-use Rattle.head_blocks.specs.declared.Unused.TheVariants.{Clear, At}
 
 -- the fixed fields but for the magic number, which is checked once
 abbrev pub fixed : Fields → Fixed
@@ -60,6 +58,6 @@ pub record Arranged (bs : List ℕ) (m : ℕ) (b : Blocks) (f : Fixed) (a : Arra
   pub b_is : b ≡ blocks_of f
 
 -- what a look at unused bits finds: nothing, or refusal 7
-abbrev pub unused_out : Unused → Out (Unit {0})
-unused_out Clear = ok tt []
-unused_out (At place) = refuse 7 place
+abbrev pub unused_out : Option ℕ → Out (Unit {0})
+unused_out None = ok tt []
+unused_out (Some place) = refuse 7 place

@@ -11,7 +11,7 @@ ghost use Rattle.head_index.specs.Rules.{need_unused};
 ghost use Rattle.head_blocks.specs.Parts.{fixed, blocks_of, BlocksSmall, form_from, form_in, unused_out};
 
 use format::{Fields, VARIANTS_TO_A_BLOCK};
-use head_numbers::number_4;
+use head_numbers::number_of;
 use head_types::types_size;
 
 // 01, The header: "Bytes 0 to 2: 0x6c 0x1b and the mode. Bytes 3 to 6: M. Bytes 7 to 10: N. Byte 11: the form."
@@ -21,8 +21,8 @@ pub fn fields_at(file: &[u8]) -> Fields
 {
     Fields {
         mode: file[2],
-        variants: number_4(file, 3) as usize,
-        samples: number_4(file, 7) as usize,
+        variants: number_of::<4>(file, 3) as usize,
+        samples: number_of::<4>(file, 7) as usize,
         form: file[11],
     }
 }
@@ -45,7 +45,7 @@ pub fn fixed_size(f: Fields) -> usize
     requires { f.samples ≤ most_samples }
     ensures { (result ≡ fixed_size (fixed f)) × (result ≤ f.samples) }
 {
-    (f.samples + 3) / 4
+    f.samples.div_ceil(4)
 }
 
 // 01: how the arrays of mode 0x10 are stored: those of the first block start at `at`, those of each next `full` bytes further; types of 4 bits if `half`,
@@ -64,10 +64,7 @@ pub fn flags_size(n: usize, stored: bool) -> usize
     requires { n ≤ most_variants }
     ensures { (result ≡ packed_size one (pick stored n 0)) × (result ≤ n) }
 {
-    if stored {
-        return (n + 7) / 8;
-    }
-    0
+    if stored { n.div_ceil(8) } else { 0 }
 }
 
 // 01: "for each block its packed types (low nibble first), its lengths, and, where bits 6 and 7 are 3, its flag bits"
@@ -85,10 +82,10 @@ pub fn blocks_of(f: Fields) -> Blocks
     ensures { (result ≡ blocks_of (fixed f)) × BlocksSmall result }
 {
     let half = f.form % 16 < 4;
-    let width = (f.form % 4) as usize + 1;
+    let width = usize::from(f.form % 4) + 1;
     let stored = f.form / 64 == 3;
     Blocks {
-        at: 12 + 8 * ((f.variants + (VARIANTS_TO_A_BLOCK - 1)) / VARIANTS_TO_A_BLOCK),
+        at: 12 + 8 * f.variants.div_ceil(VARIANTS_TO_A_BLOCK),
         full: block_size(VARIANTS_TO_A_BLOCK, half, width, stored),
         half,
         width,
@@ -123,13 +120,7 @@ fn types_clear(file: &[u8], place: usize, n: usize, half: bool) -> bool
     requires { Bytes file.now × (place + packed_size (pick half four eight) n ≤ length file.now) }
     ensures { result ≡ eqb (unused_bits (pick half four eight) n (drop place file.now)) 0 }
 {
-    if !half {
-        return true;
-    }
-    if n % 2 == 0 {
-        return true;
-    }
-    file[place + n / 2] / 16 == 0
+    !half || n % 2 == 0 || file[place + n / 2] / 16 == 0
 }
 
 // Of the flag bits of n variants.
@@ -137,33 +128,20 @@ pub fn flags_clear(file: &[u8], place: usize, n: usize, stored: bool) -> bool
     requires { Bytes file.now × (place + packed_size one (pick stored n 0) ≤ length file.now) }
     ensures { result ≡ eqb (unused_bits one (pick stored n 0) (drop place file.now)) 0 }
 {
-    if !stored {
-        return true;
-    }
-    if n % 8 == 0 {
-        return true;
-    }
-    file[place + n / 8] >> (n % 8) == 0
-}
-
-// Whether a look at unused bits finds none set, or the byte that has one.
-#[derive(Clone, Copy)]
-pub enum Unused {
-    Clear,
-    At(usize),
+    !stored || n % 8 == 0 || file[place + n / 8] >> (n % 8) == 0
 }
 
 // Of the arrays of a block of n variants, which start at a place.
-pub fn unused_in(file: &[u8], place: usize, n: usize, b: Blocks) -> Unused
+pub fn unused_in(file: &[u8], place: usize, n: usize, b: Blocks) -> Option<usize>
     requires { (1 ≤ n) × (n ≤ variants_to_a_block) × (b.width ≤ 4) × (place + block_size (form_in b) n ≤ length file.now) }
     ensures { unused_out result ≡ need_unused (form_in b) place n file.now (ok tt []) }
 {
     let size = types_size(n, b.half);
     if !types_clear(file, place, n, b.half) {
-        return Unused::At(place + size - 1);
+        return Some(place + size - 1);
     }
     if !flags_clear(file, place + (size + b.width * n), n, b.stored) {
-        return Unused::At(place + block_size(n, b.half, b.width, b.stored) - 1);
+        return Some(place + block_size(n, b.half, b.width, b.stored) - 1);
     }
-    Unused::Clear
+    None
 }

@@ -1,5 +1,6 @@
 -- Refusals 7, 8 and 9, and acceptance, where there are blocks: each step of the code.
 -- Assumes nothing.
+use Rattle.std.specs.Prelude.{Option, Some, None, Result, Ok, Err, ⊤}
 use mathlib.Core.Path.{◌≡◌, refl, sym, ap, ◌∙◌}
 use Prim.Native.Nat.{ℕ, ◌+◌, ◌-◌, ◌*◌, ◌/◌, ◌≤◌, ◌<◌}
 use mathlib.Core.Bool.{Bool, true, false}
@@ -11,12 +12,8 @@ use mir.Val.{Fits}
 use native.Mathlib.Omega.{arith}
 use borrow.Author.Tests.{lt-ltb, le-ltb, ltb-true, ltb-false}
 use Rattle.format.specs.declared.FileVariant.{FileVariant}
-use Rattle.format.specs.declared.FoundInFile.{FoundInFile}
-use Rattle.format.specs.declared.FoundInFile.TheVariants.{At, Nowhere}
 use Rattle.format.specs.declared.Fields.{Fields}
 use Rattle.format.specs.declared.Refusal.{Refusal}
-use Rattle.format.specs.declared.HeaderReply.{HeaderReply}
-use Rattle.format.specs.declared.HeaderReply.TheVariants.{Accepted, Refused}
 use Rattle.format.specs.Base.{pick, ok, refused, refusal, named, refuse_of}
 use Rattle.format.specs.Variant.{file_variant, no_variant}
 use Rattle.format.specs.Layout.{Fixed, Arrays, sum, block_count, block_size, header_end, first_record}
@@ -30,18 +27,13 @@ use Rattle.head_index.specs.Known.{Passed}
 use Rattle.head_index.proofs.RefusalsByIndexArrays.{passed_known}
 use Rattle.head_index.proofs.RefusalsByIndexRecords.{refusal_8, refusal_9_offset, offset_wrong}
 use Rattle.head_blocks.specs.declared.Blocks.{Blocks}
-use Rattle.head_blocks.specs.declared.Unused.{Unused}
-use Rattle.head_blocks.specs.declared.Unused.TheVariants.{Clear, At}
 use Rattle.head_blocks.specs.Parts.{fixed, blocks_of, form_in, count_in, BlocksFit, Arranged, unused_out}
 use Rattle.head_blocks.proofs.Places.{blocks_before_fit, block_place_fits}
-use Rattle.head_columns.specs.declared.Ends.{Ends}
-use Rattle.head_columns.specs.declared.Ends.TheVariants.{WrongOffset, RecordsEnd}
+use Rattle.head_columns.specs.declared.WrongOffset.{WrongOffset}
 use Rattle.head_columns.specs.Looks.{FirstBad, ending, EndOfRecords}
 use Rattle.head_columns.proofs.Arrangement.{place_is}
 use Rattle.head_check.specs.Ready.{Held, Placed}
-use Rattle.head_check.specs.declared.Found.{Found}
-use Rattle.head_check.specs.declared.Found.TheVariants as found
-use Rattle.head_check.specs.Finding.{earlier_of, found_then, UnusedFound, TypesFound, EndsFound, found_unused}
+use Rattle.head_check.specs.Finding.{found_then, UnusedFound, TypesFound, EndsFound, found_unused}
 use Rattle.head_check.proofs.Handed.{Ranges, ranges, held_variants, refused_as, names, seven, beyond_7, nine_end, accepts}
 use Rattle.head_check.proofs.BlockedLaws.{blocks_fit, last_unused}
 
@@ -70,18 +62,18 @@ module _ {bs : List ℕ} {f : Fields} {b : Blocks} (c : Placed bs f b) where
     last_fits = rw d (fit.each ((f.variants - 1) / 65536) last_block_inside)
 
     -- what a look at the last block says of all
-    module _ (r : Unused) (u : unused_out r ≡ need_unused (form_in b) (b.at + (f.variants - 1) / 65536 * b.full) n bs (ok tt [])) where
+    module _ (r : Option ℕ) (u : unused_out r ≡ need_unused (form_in b) (b.at + (f.variants - 1) / 65536 * b.full) n bs (ok tt [])) where
       all_unused : unused_out r ≡ unused_arrays 65536 (fixed f) bs
       unfolding block_variants
       all_unused =
           rw (d, c.b_is, place_is (blocks_of (fixed f)) (fixed f) refl ((f.variants - 1) / 65536)) at u
           ∙ sym (last_unused (fixed f) bs c.blocked given_ranges.variants_least)
 
-      pub clears : r ≡ Clear → UnusedFound bs f found.Nothing
+      pub clears : r ≡ None → UnusedFound bs f (Ok tt)
       clears q = record { unused = r; is = all_unused; told = rw q refl }
 
-      pub unclear : {place : ℕ} {why : Refusal} → r ≡ At place → why ≡ named (no_variant f.variants) (refusal 7 place)
-          → UnusedFound bs f (found.Refused why)
+      pub unclear : {place : ℕ} {why : Refusal} → r ≡ Some place → why ≡ named (no_variant f.variants) (refusal 7 place)
+          → UnusedFound bs f (Err why)
       unclear q z = record { unused = r; is = all_unused; told = rw (q, z) refl }
 
 pub ruleset seven_laws = (some_variant, last_block_few, last_block_inside, blocks_before_fit, block_place_fits, last_fits, clears, unclear)
@@ -97,8 +89,8 @@ module _ {bs : List ℕ} {f : Fields} {b : Blocks} (c : Placed bs f b) where
     b_is = c.b_is ∙ ap blocks_of (sym c.held.ready.same);
   }
 
-  module _ {r : FoundInFile} (k : FirstBad bs f.variants b r) where
-    pub bad_inside : {v : FileVariant} → r ≡ At v → v.0 < 16777216
+  module _ {r : Option FileVariant} (k : FirstBad bs f.variants b r) where
+    pub bad_inside : {v : FileVariant} → r ≡ Some v → v.0 < 16777216
     bad_inside {v} l = omega (arith, k.below v l, (given_ranges c).variants_most)
 
     module _ {a : Arrays} (p : Passed 65536 bs a) where
@@ -107,13 +99,13 @@ module _ {bs : List ℕ} {f : Fields} {b : Blocks} (c : Placed bs f b) where
           let w : r ≡ bad_type 65536 (file_variant 0) a.columns.types = k.is (fixed_at bs) a _ (arranged a p) in
           rw (← w) at (refusal_8 65536 bs a p)
 
-      pub bad_8 : {v : FileVariant} {place : ℕ} {why : Refusal} → r ≡ At v → ((f₁ : Fixed) → b ≡ blocks_of f₁ → place ≡ type_place 65536 f₁ v)
+      pub bad_8 : {v : FileVariant} {place : ℕ} {why : Refusal} → r ≡ Some v → ((f₁ : Fixed) → b ≡ blocks_of f₁ → place ≡ type_place 65536 f₁ v)
           → why ≡ named v (refusal 8 place) → refused why ≡ after_fixed 65536 bs
       bad_8 l q z =
           let d = q (fixed_at bs) (c.b_is ∙ ap blocks_of (sym c.held.ready.same)) in
           ap refused z ∙ sym (decided ∙ rw l (ap (refuse_of _ 8) (sym d)))
 
-      pub beyond_8 : r ≡ Nowhere → after_types 65536 bs a ≡ after_fixed 65536 bs
+      pub beyond_8 : r ≡ None → after_types 65536 bs a ≡ after_fixed 65536 bs
       beyond_8 l = sym (decided ∙ rw l refl)
 
 pub ruleset eight_laws = (fit, bad_inside, bad_8, beyond_8)
@@ -121,17 +113,19 @@ pub ruleset eight_laws = (fit, bad_inside, bad_8, beyond_8)
 -- ---- 9
 
 -- what was found, by cases
-wrong_found : (j wrong blocks last : ℕ) → WrongOffset j ≡ ending wrong blocks last → (j ≡ wrong) × (wrong < blocks)
+wrong_found : (j wrong blocks last : ℕ) → Err (record { 0 = j }) ≡ ending wrong blocks last → (j ≡ wrong) × (wrong < blocks)
 wrong_found j wrong blocks last e = go (ltb wrong blocks) (ltb-true wrong blocks) e
   where
-    go : (t : Bool) → (t ≡ true → wrong < blocks) → WrongOffset j ≡ pick t (WrongOffset wrong) (RecordsEnd last) → (j ≡ wrong) × (wrong < blocks)
-    go true f q = (cc, f refl)
+    go : (t : Bool) → (t ≡ true → wrong < blocks) → ◌≡◌ {A = Result ℕ WrongOffset} (Err (record { 0 = j })) (pick t (Err (record { 0 = wrong })) (Ok last))
+        → (j ≡ wrong) × (wrong < blocks)
+    go true f q = (let s : ◌≡◌ {A = WrongOffset} (record { 0 = j }) (record { 0 = wrong }) = cc in ap (λ (z : WrongOffset). z.0) s, f refl)
     go false f q = absurd (let z : ◌≡◌ {A = ℕ} 0 1 = cc in omega arith)
 
-end_found : (x wrong blocks last : ℕ) → RecordsEnd x ≡ ending wrong blocks last → (x ≡ last) × (blocks ≤ wrong)
+end_found : (x wrong blocks last : ℕ) → Ok x ≡ ending wrong blocks last → (x ≡ last) × (blocks ≤ wrong)
 end_found x wrong blocks last e = go (ltb wrong blocks) (ltb-false wrong blocks) e
   where
-    go : (t : Bool) → (t ≡ false → blocks ≤ wrong) → RecordsEnd x ≡ pick t (WrongOffset wrong) (RecordsEnd last) → (x ≡ last) × (blocks ≤ wrong)
+    go : (t : Bool) → (t ≡ false → blocks ≤ wrong) → ◌≡◌ {A = Result ℕ WrongOffset} (Ok x) (pick t (Err (record { 0 = wrong })) (Ok last))
+        → (x ≡ last) × (blocks ≤ wrong)
     go true f q = absurd (let z : ◌≡◌ {A = ℕ} 0 1 = cc in omega arith)
     go false f q = (cc, f refl)
 
@@ -139,7 +133,7 @@ end_found x wrong blocks last e = go (ltb wrong blocks) (ltb-false wrong blocks)
 abbrev wrong : List ℕ → Arrays → ℕ
 wrong bs a = wrong_offset 0 a.offsets (starts_of 65536 (fixed_at bs) a)
 
-module _ {bs : List ℕ} {f : Fields} {b : Blocks} (c : Placed bs f b) {first : ℕ} (i : first ≡ first_record 65536 (fixed f)) {r : Ends}
+module _ {bs : List ℕ} {f : Fields} {b : Blocks} (c : Placed bs f b) {first : ℕ} (i : first ≡ first_record 65536 (fixed f)) {r : Result ℕ WrongOffset}
     (k : EndOfRecords bs f.variants b first r) where
   ending_is : (a : Arrays) → Passed 65536 bs a → r ≡ ending (wrong bs a) ((f.variants + 65535) / 65536) (first + sum a.columns.lengths)
   ending_is a p = k (fixed_at bs) a _ (arranged c a p) (i ∙ ap (first_record 65536) (sym c.held.ready.same))
@@ -147,7 +141,7 @@ module _ {bs : List ℕ} {f : Fields} {b : Blocks} (c : Placed bs f b) {first : 
   blocks_are : block_count 65536 (fixed_at bs) ≡ (f.variants + 65535) / 65536
   blocks_are = ap (block_count 65536) c.held.ready.same ∙ block_count_is 65536 (fixed f) c.blocked
 
-  module _ {j : ℕ} (q : r ≡ WrongOffset j) where
+  module _ {j : ℕ} (q : r ≡ Err (record { 0 = j })) where
     at_offset : (a : Arrays) → Passed 65536 bs a → (j ≡ wrong bs a) × (wrong bs a < (f.variants + 65535) / 65536)
     at_offset a p = wrong_found j (wrong bs a) ((f.variants + 65535) / 65536) (first + sum a.columns.lengths) (sym q ∙ ending_is a p)
 
@@ -165,7 +159,7 @@ module _ {bs : List ℕ} {f : Fields} {b : Blocks} (c : Placed bs f b) {first : 
       pub offset_place_fits : Fits w64 (12 + 8 * j)
       offset_place_fits = omega (arith, few_blocks)
 
-    pub nine_offset : {why : Refusal} → why ≡ named (no_variant f.variants) (refusal 9 (12 + 8 * j)) → EndsFound bs (Refused why)
+    pub nine_offset : {why : Refusal} → why ≡ named (no_variant f.variants) (refusal 9 (12 + 8 * j)) → EndsFound bs (Err why)
     nine_offset z a p =
         let w = at_offset a p in
         refused_as (after_types 65536 bs a)
@@ -174,7 +168,7 @@ module _ {bs : List ℕ} {f : Fields} {b : Blocks} (c : Placed bs f b) {first : 
         ∙ names c.held.ready 9 (12 + 8 * j)
         ∙ ap refused (sym z))
 
-  module _ {x : ℕ} (q : r ≡ RecordsEnd x) (a : Arrays) (p : Passed 65536 bs a) where
+  module _ {x : ℕ} (q : r ≡ Ok x) (a : Arrays) (p : Passed 65536 bs a) where
     at_end : (x ≡ first + sum a.columns.lengths) × ((f.variants + 65535) / 65536 ≤ wrong bs a)
     at_end = end_found x (wrong bs a) ((f.variants + 65535) / 65536) (first + sum a.columns.lengths) (sym q ∙ ending_is a p)
 
@@ -184,12 +178,12 @@ module _ {bs : List ℕ} {f : Fields} {b : Blocks} (c : Placed bs f b) {first : 
     total : x ≡ first_record 65536 (fixed f) + sum a.columns.lengths
     total = at_end.0 ∙ rw i refl
 
-  pub nine_last : {x : ℕ} {why : Refusal} → r ≡ RecordsEnd x → (x ≡ length bs → ⊥) → why ≡ named (no_variant f.variants) (refusal 9 (length bs))
-      → EndsFound bs (Refused why)
+  pub nine_last : {x : ℕ} {why : Refusal} → r ≡ Ok x → (x ≡ length bs → ⊥) → why ≡ named (no_variant f.variants) (refusal 9 (length bs))
+      → EndsFound bs (Err why)
   nine_last q n z a p =
       refused_as (after_types 65536 bs a) (nine_end c.held a p (beyond_9 q a p) (λ s. n (total q a p ∙ s)) ∙ ap refused (sym z))
 
-  pub accepted_last : {x : ℕ} → r ≡ RecordsEnd x → x ≡ length bs → EndsFound bs (Accepted f)
+  pub accepted_last : {x : ℕ} → r ≡ Ok x → x ≡ length bs → EndsFound bs (Ok f)
   accepted_last q n a p = accepts c.held a p (beyond_9 q a p) (sym (total q a p) ∙ n)
 
 pub placed_variants : {bs : List ℕ} {f : Fields} {b : Blocks} → Placed bs f b → f.variants ≤ 16777216
@@ -199,45 +193,39 @@ pub ruleset nine_laws = (fit, placed_variants, offsets_fit, offset_place_fits, n
 
 -- ---- 7, then 8, then 9
 
-pub first_refused : {first : Found} (second : Found) {why : Refusal} → first ≡ found.Refused why → found.Refused why ≡ earlier_of first second
-first_refused second q = rw q refl
-
-module _ {bs : List ℕ} {f : Fields} (h : Held bs f) (unused bad : Found) (u : UnusedFound bs f unused) (k : TypesFound bs bad) {r : Found}
-    (e : r ≡ earlier_of unused bad) where
-  -- one of the first two
-  pub one_refused : {why : Refusal} → r ≡ found.Refused why → header_left (Refused why) ≡ summary (after_fixed 65536 bs)
-  one_refused {why} q = refused_as (after_fixed 65536 bs) (go u.unused u.is (rw u.told at (sym q ∙ e)))
-    where
-      go : (s : Unused) → unused_out s ≡ unused_arrays 65536 (fixed f) bs → found.Refused why ≡ earlier_of (found_unused f.variants s) bad
-          → after_fixed 65536 bs ≡ refused why
-      go (At place) w e =
-          let d : why ≡ named (no_variant f.variants) (refusal 7 place) = cc in
-          seven h place (sym w) ∙ ap refused (sym d)
-      go Clear w e =
-          let g = beyond_7 h (sym w) in
-          sym (k g.0 g.1) ∙ rw (← e) refl
-
-  -- neither
-  module _ (q : r ≡ found.Nothing) where
-    both_clear : (unused ≡ found.Nothing) × (bad ≡ found.Nothing)
-    both_clear = go unused (sym q ∙ e)
+module _ {bs : List ℕ} {f : Fields} (h : Held bs f) where
+  module _ {unused : Result ⊤ Refusal} (u : UnusedFound bs f unused) where
+    -- 7
+    pub refused_7 : {why : Refusal} → unused ≡ Err why → header_left (Err why) ≡ summary (after_fixed 65536 bs)
+    refused_7 {why} q = refused_as (after_fixed 65536 bs) (go u.unused u.is (sym q ∙ u.told))
       where
-        go : (s : Found) → found.Nothing ≡ earlier_of s bad → (s ≡ found.Nothing) × (bad ≡ found.Nothing)
-        go (found.Refused why) e = absurd (let z : ◌≡◌ {A = ℕ} 0 1 = cc in omega arith)
-        go found.Nothing e = (refl, sym e)
+        go : (s : Option ℕ) → unused_out s ≡ unused_arrays 65536 (fixed f) bs → Err why ≡ found_unused f.variants s
+            → after_fixed 65536 bs ≡ refused why
+        go (Some place) w e =
+            let d : why ≡ named (no_variant f.variants) (refusal 7 place) = cc in
+            seven h place (sym w) ∙ ap refused (sym d)
+        go None w e = absurd (let z : ◌≡◌ {A = ℕ} 0 1 = cc in omega arith)
 
-    pub cleared : unused_arrays 65536 (fixed f) bs ≡ ok tt []
-    cleared = go u.unused u.is (sym u.told ∙ both_clear.0)
+    pub cleared : {x : ⊤} → unused ≡ Ok x → unused_arrays 65536 (fixed f) bs ≡ ok tt []
+    cleared {x} q = go u.unused u.is (sym u.told ∙ q)
       where
-        go : (s : Unused) → unused_out s ≡ unused_arrays 65536 (fixed f) bs → found_unused f.variants s ≡ found.Nothing
+        go : (s : Option ℕ) → unused_out s ≡ unused_arrays 65536 (fixed f) bs → found_unused f.variants s ≡ Ok x
             → unused_arrays 65536 (fixed f) bs ≡ ok tt []
-        go (At place) w e = absurd (let z : ◌≡◌ {A = ℕ} 0 1 = cc in omega arith)
-        go Clear w e = sym w
+        go (Some place) w e = absurd (let z : ◌≡◌ {A = ℕ} 0 1 = cc in omega arith)
+        go None w e = sym w
 
-    pub neither : (m : HeaderReply) → EndsFound bs m → header_left m ≡ summary (after_fixed 65536 bs)
-    neither m s =
-        let g = beyond_7 h cleared in
+  module _ (c : unused_arrays 65536 (fixed f) bs ≡ ok tt []) {bad : Result ⊤ Refusal} (k : TypesFound bs bad) where
+    -- 8
+    pub refused_8 : {why : Refusal} → bad ≡ Err why → header_left (Err why) ≡ summary (after_fixed 65536 bs)
+    refused_8 q =
+        let g = beyond_7 h c in
+        refused_as (after_fixed 65536 bs) (sym (k g.0 g.1) ∙ rw q refl)
+
+    -- neither
+    pub left_to_9 : {x : ⊤} → bad ≡ Ok x → (m : Result Fields Refusal) → EndsFound bs m → header_left m ≡ summary (after_fixed 65536 bs)
+    left_to_9 q m s =
+        let g = beyond_7 h c in
         s g.0 g.1
-        ∙ ap summary (ap (λ (z : Found). found_then z (after_types 65536 bs g.0)) (sym both_clear.1) ∙ k g.0 g.1)
+        ∙ ap summary (ap (λ (z : Result ⊤ Refusal). found_then z (after_types 65536 bs g.0)) (sym q) ∙ k g.0 g.1)
 
-pub ruleset Chain_laws = (held_variants, one_refused, cleared, neither)
+pub ruleset Chain_laws = (held_variants, refused_7, cleared, refused_8, left_to_9)

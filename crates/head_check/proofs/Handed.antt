@@ -1,18 +1,16 @@
 -- What follows from what the steps of the header check hand on.
 -- Assumes nothing.
+use Rattle.std.specs.Prelude.{Ok, Err}
 use mathlib.Core.Path.{◌≡◌, refl, ap, ◌∙◌}
-use Prim.Native.Nat.{ℕ, ◌+◌, ◌≤◌, ◌<◌}
-use mathlib.Core.Bool.{Bool, true, false}
+use Prim.Native.Nat.{ℕ, ◌+◌, ◌≤◌}
 use mathlib.Core.List.{List, []}
 use lib.ListN.{length}
-use lib.Dec.{eqb, ltb, leb, lit<}
-use borrow.Author.Tests.{lt-leb, le-leb}
+use lib.Dec.{lit<}
 use Rattle.format.specs.declared.Fields.{Fields}
 use Rattle.format.specs.declared.Refusal.{Refusal}
-use Rattle.format.specs.declared.HeaderReply.TheVariants.{Accepted, Refused}
-use Rattle.format.specs.Base.{pick, Out, ok, refused, refuse, refuse_of}
+use Rattle.format.specs.Base.{Out, ok, refused, refuse, refuse_of}
 use Rattle.format.specs.Limits.{most_samples, most_variants}
-use Rattle.format.specs.Layout.{Fixed, unblocked, from_1_to, mode_covered, Arrays, sum, header_end, first_record, Layout}
+use Rattle.format.specs.Layout.{Fixed, Arrays, sum, header_end, first_record, Layout}
 use Rattle.format.specs.Reply.{summary, header_left}
 use Rattle.format.specs.Variant.{no_variant}
 use Rattle.format.proofs.OffsetsLaws.{from_1_to_most, from_1_to_positive}
@@ -22,30 +20,7 @@ use Rattle.head_index.specs.Known.{Passed}
 use Rattle.head_index.proofs.RefusalsByIndexArrays.{refusal_7, passed_7}
 use Rattle.head_index.proofs.RefusalsByIndexRecords.{refusal_9_end, accepted, accepted_variants}
 use Rattle.head_blocks.specs.Parts.{fixed}
-use Rattle.head_blocks.proofs.Answers.{holds, fails}
 use Rattle.head_check.specs.Ready.{FieldsPassed, Held}
-
--- ---- the rules on single fields
-
-pub unblocked_covered : (mode : ℕ) {t : Bool} → t ≡ unblocked mode → t ≡ true → true ≡ mode_covered mode
-unblocked_covered mode d e = simp (holds d e)
-
-pub other_covered : (mode : ℕ) {t : Bool} → t ≡ unblocked mode → t ≡ false → eqb mode 16 ≡ mode_covered mode
-other_covered mode d e = simp (fails d e)
-
-pub none_refused : (most n : ℕ) → n < 1 → false ≡ from_1_to most n
-none_refused most n h = simp (lt-leb 1 n h)
-
-pub some_allowed : (most n : ℕ) → 1 ≤ n → leb n most ≡ from_1_to most n
-some_allowed most n h = simp (le-leb 1 n h)
-
-pub unblocked_form : (mode form : ℕ) {t : Bool} → t ≡ unblocked mode → t ≡ true → ltb form 1 ≡ ltb form (pick (unblocked mode) 1 8)
-unblocked_form mode form d e = simp (holds d e)
-
-pub blocked_form : (mode form : ℕ) {t : Bool} → t ≡ unblocked mode → t ≡ false → ltb form 8 ≡ ltb form (pick (unblocked mode) 1 8)
-blocked_form mode form d e = simp (fails d e)
-
-pub ruleset field_laws = (unblocked_covered, other_covered, none_refused, some_allowed, unblocked_form, blocked_form)
 
 -- ---- the numbers of variants and samples
 
@@ -75,7 +50,7 @@ held_samples h = (ranges h.ready).samples_most
 -- ---- the ends of the check
 
 -- a refusal
-pub refused_as : {why : Refusal} (m : Out Layout) → m ≡ refused why → header_left (Refused why) ≡ summary m
+pub refused_as : {why : Refusal} (m : Out Layout) → m ≡ refused why → header_left (Err why) ≡ summary m
 refused_as m e = rw e refl
 
 -- the header's M is the one that was read
@@ -100,7 +75,7 @@ module _ {bs : List ℕ} {f : Fields} (h : Held bs f) where
     nine_end n = e ∙ refusal_9_end 65536 bs a p fits (λ q. n (rw h.ready.same at q)) ∙ names h.ready 9 (length bs)
 
     -- accepted
-    pub accepts : first_record 65536 (fixed f) + sum a.columns.lengths ≡ length bs → header_left (Accepted f) ≡ summary m
+    pub accepts : first_record 65536 (fixed f) + sum a.columns.lengths ≡ length bs → header_left (Ok f) ≡ summary m
     accepts n =
         let q : first_record 65536 (fixed_at bs) + sum a.columns.lengths ≡ length bs = rw h.ready.same n in
         let k : length (layout_at 65536 bs a).bodies ≡ f.variants

@@ -1,5 +1,6 @@
 -- Refusals 7 and 9, and acceptance, where there are no blocks.
 -- Assumes nothing.
+use Rattle.std.specs.Prelude.{Ok, Err}
 use mathlib.Core.Path.{◌≡◌, refl, sym, ap, ◌∙◌}
 use Prim.Native.Nat.{ℕ, ◌+◌, ◌-◌, ◌*◌, ◌/◌, ◌≤◌}
 use native.Mathlib.Nat.{mul-le-mul}
@@ -12,7 +13,6 @@ use mir.Val.{Fits}
 use native.Mathlib.Omega.{arith}
 use Rattle.format.specs.declared.Fields.{Fields}
 use Rattle.format.specs.declared.Refusal.{Refusal}
-use Rattle.format.specs.declared.HeaderReply.TheVariants.{Accepted, Refused}
 use Rattle.format.specs.Base.{pick, ok, refused, refusal, refuse, need, named}
 use Rattle.format.specs.Packed.{one, packed_size}
 use Rattle.format.specs.Limits.{most_variants, most_samples}
@@ -64,7 +64,7 @@ module _ {bs : List ℕ} {f : Fields} (h : Held bs f) where
       -- 7
       pub flags_7 : {why : Refusal} {end : ℕ} → not clear ≡ true → end ≡ header_end 65536 (fixed f)
           → why ≡ named (no_variant f.variants) (refusal 7 (end - 1))
-          → header_left (Refused why) ≡ summary (after_fixed 65536 bs)
+          → header_left (Err why) ≡ summary (after_fixed 65536 bs)
       flags_7 {end = end} c e z =
           let u : unused_arrays 65536 (fixed f) bs ≡ refuse 7 (end - 1)
           = unused_flags (fixed f) bs mode ∙ simp (denied d c) (ap (λ (x : ℕ). refuse 7 (x - 1)) (flags_end ∙ sym e)) in
@@ -83,12 +83,12 @@ module _ {bs : List ℕ} {f : Fields} (h : Held bs f) where
         module _ {first size : ℕ} (e : first ≡ first_record 65536 (fixed f)) (s : size ≡ fixed_size (fixed f)) where
           -- 9
           pub records_9 : {why : Refusal} → (first + f.variants * size ≡ length bs → ⊥) → why ≡ named (no_variant f.variants) (refusal 9 (length bs))
-              → header_left (Refused why) ≡ summary (after_fixed 65536 bs)
+              → header_left (Err why) ≡ summary (after_fixed 65536 bs)
           records_9 n z =
               refused_as (after_fixed 65536 bs) (nine_end h passed.0 passed.1 goes_on (λ q. n (rw (e, s, ← total) q)) ∙ ap refused (sym z))
 
           -- accepted
-          pub records_accepted : first + f.variants * size ≡ length bs → header_left (Accepted f) ≡ summary (after_fixed 65536 bs)
+          pub records_accepted : first + f.variants * size ≡ length bs → header_left (Ok f) ≡ summary (after_fixed 65536 bs)
           records_accepted n = accepts h passed.0 passed.1 goes_on (rw (total, ← e, ← s) n)
 
 pub ruleset unblocked_laws = (held_variants, held_samples, records_fit, records_end_fits, flags_inside, flags_7, records_9, records_accepted)

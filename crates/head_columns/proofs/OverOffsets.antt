@@ -1,9 +1,9 @@
 -- One turn of the loop of `records_end`, over a block.
 -- Assumes nothing.
+use Rattle.std.specs.Prelude.{Ok, Err}
 use mathlib.Core.Path.{◌≡◌, refl, sym, ap, ◌∙◌}
 use Prim.Native.Nat.{ℕ, suc, ◌+◌, ◌*◌, ◌/◌, ◌≤◌, ◌<◌}
 use native.Mathlib.Numerals.{add-one}
-use mathlib.Core.Bool.{Bool}
 use mathlib.Core.List.{List, []}
 use lib.ListN.{length, take, drop, get_or, drop_of_length-le}
 use lib.Seq.{take-length}
@@ -22,26 +22,24 @@ use Rattle.head_index.proofs.StartLaws.{offset_at_is}
 use Rattle.head_index.proofs.RefusalsByIndexTurns.{turn_9, start_of_block, next_start}
 use Rattle.head_blocks.specs.declared.Blocks.{Blocks}
 use Rattle.head_blocks.specs.Parts.{count_in, Arranged}
-use Rattle.head_columns.specs.declared.Ends.TheVariants.{WrongOffset, RecordsEnd}
 use Rattle.head_columns.specs.Looks.{EndOfRecords}
 use Rattle.head_columns.proofs.Arrangement.{arrangement_laws, block_inside, count_is, width_is, lengths_place_is}
 use Rattle.head_columns.proofs.Over.{passed}
 
 -- the offsets of the first j blocks are right, and their records end at `start`
-pub record OverOffsets (bs : List ℕ) (m at full : ℕ) (half : Bool) (width first start j : ℕ) : Type 0 where
+pub record OverOffsets (bs : List ℕ) (m : ℕ) (b : Blocks) (first start j : ℕ) : Type 0 where
   pub inside : j ≤ (m + 65535) / 65536
   pub small : start ≤ first + 281474976645120 * j
-  pub same : (b : Blocks) → b.at ≡ at → b.full ≡ full → b.half ≡ half → b.width ≡ width → (f : Fixed) (a : Arrays) (records : List ℕ)
-      → Arranged bs m b f a records → first ≡ first_record 65536 f
+  pub same : (f : Fixed) (a : Arrays) (records : List ℕ) → Arranged bs m b f a records → first ≡ first_record 65536 f
       → (wrong_offset j (drop j a.offsets) (drop j (starts_of 65536 f a)) ≡ wrong_offset 0 a.offsets (starts_of 65536 f a))
       × (start ≡ first + sum (take (passed m j) a.columns.lengths))
 
 -- of none
-pub starts : (bs : List ℕ) (m at full : ℕ) (half : Bool) (width first : ℕ) → OverOffsets bs m at full half width first first 0
+pub starts : (bs : List ℕ) (m : ℕ) (b : Blocks) (first : ℕ) → OverOffsets bs m b first first 0
 unfolding sum
-starts bs m at full half width first =
+starts bs m b first =
     let e : passed m 0 ≡ 0 = omega arith in
-    record { inside = omega arith; small = omega arith; same = λ b i k h w f a records g q. (refl, rw e (omega arith)) }
+    record { inside = omega arith; small = omega arith; same = λ f a records g q. (refl, rw e (omega arith)) }
 
 module _ (bs : List ℕ) (m : ℕ) (b : Blocks) (j x start first : ℕ) (h : j < (m + 65535) / 65536) (d : x ≡ number_at 8 (drop (12 + 8 * j) bs))
     (f : Fixed) (a : Arrays) (records : List ℕ) (g : Arranged bs m b f a records) (q : first ≡ first_record 65536 f)
@@ -82,45 +80,43 @@ module _ (bs : List ℕ) (m : ℕ) (b : Blocks) (j x start first : ℕ) (h : j <
       = ap (λ (z : ℕ). sum (take z a.columns.lengths)) (sym next) ∙ rw (c, e₁) (next_start 65536 j f a records g.known (omega (arith, g.m_is))) in
       omega (arith, ap (λ (z : ℕ). sum (take z a.columns.lengths)) here)
 
-module _ {bs : List ℕ} {m at full : ℕ} {half : Bool} {width first start j : ℕ} (o : OverOffsets bs m at full half width first start j) where
+module _ {bs : List ℕ} {m : ℕ} {b : Blocks} {first start j : ℕ} (o : OverOffsets bs m b first start j) where
   module _ (h : j < (m + 65535) / 65536) {x : ℕ} (d : x ≡ number_at 8 (drop (12 + 8 * j) bs)) where
     -- an offset is wrong
-    pub stops : (b : Blocks) → b.at ≡ at → b.full ≡ full → b.half ≡ half → b.width ≡ width → (x ≡ start → ⊥)
-        → EndOfRecords bs m b first (WrongOffset j)
-    stops b p i r w n f a records g q =
-        let k = o.same b p i r w f a records g q in
+    pub stops : (x ≡ start → ⊥) → EndOfRecords bs m b first (Err (record { 0 = j }))
+    stops n f a records g q =
+        let k = o.same f a records g q in
         let wrong : wrong_offset 0 a.offsets (starts_of 65536 f a) ≡ j
         = sym k.0 ∙ next_offset bs m b j x start first h d f a records g q k.1 ∙ simp (ne_eqb x start n) in
         rw wrong (simp (lt-ltb j ((m + 65535) / 65536) h))
 
     -- it is right
-    pub goes_on : x ≡ start → {n size total : ℕ} → n ≡ count_in m j → size ≡ packed_size (pick half four eight) n
-        → total ≡ sum (numbers_at width n (drop (at + j * full + size) bs)) → total ≤ 4294967295 * n → n ≤ 65536
-        → OverOffsets bs m at full half width first (start + total) (j + 1)
+    pub goes_on : x ≡ start → {n size total : ℕ} → n ≡ count_in m j → size ≡ packed_size (pick b.half four eight) n
+        → total ≡ sum (numbers_at b.width n (drop (b.at + j * b.full + size) bs)) → total ≤ 4294967295 * n → n ≤ 65536
+        → OverOffsets bs m b first (start + total) (j + 1)
     goes_on y {n} {size} {total} e z t l k = record {
       inside = omega arith;
       small = omega (arith, o.small);
-      same = λ b p q r w f a records g c.
-          let o₁ = o.same b p q r w f a records g c in
+      same = λ f a records g c.
+          let o₁ = o.same f a records g c in
           let t₁ : total ≡ sum (numbers_at b.width (count_in m j) (drop (b.at + j * b.full + packed_size (pick b.half four eight) (count_in m j)) bs))
-          = rw (p, q, r, w, ← e, ← z) t in (
+          = rw (← e, ← z) t in (
             rw add-one (sym (next_offset bs m b j x start first h d f a records g c o₁.1 ∙ simp (eq-eqb x start y)) ∙ o₁.0),
             next_end bs m b j x start first h d f a records g c o₁.1 total t₁,
           );
     }
 
   -- all are
-  pub ends : (b : Blocks) → b.at ≡ at → b.full ≡ full → b.half ≡ half → b.width ≡ width → (m + 65535) / 65536 ≤ j
-      → EndOfRecords bs m b first (RecordsEnd start)
+  pub ends : (m + 65535) / 65536 ≤ j → EndOfRecords bs m b first (Ok start)
   unfolding wrong_offset
-  ends b p i r w h f a records g q =
-      let k = o.same b p i r w f a records g q in
+  ends h f a records g q =
+      let k = o.same f a records g q in
       let n : length a.offsets ≡ block_count 65536 f = g.known.offsets_fit.0 in
       let none : drop j a.offsets ≡ []
       = drop_of_length-le a.offsets {i = j} (rw (n, block_count_is 65536 f g.known.blocked) (omega (arith, g.m_is))) in
       let wrong : wrong_offset 0 a.offsets (starts_of 65536 f a) ≡ j = sym (rw none at k.0) in
       let all : passed m j ≡ length a.columns.lengths = omega (arith, g.known.all_fit.lengths_count, g.m_is) in
       let s : start ≡ first + sum a.columns.lengths = k.1 ∙ rw (all, take-length) refl in
-      rw wrong (simp (le-ltb j ((m + 65535) / 65536) h) (ap RecordsEnd s))
+      rw wrong (simp (le-ltb j ((m + 65535) / 65536) h) (ap Ok s))
 
 pub ruleset offsets_laws = (arrangement_laws, starts, stops, goes_on, ends)

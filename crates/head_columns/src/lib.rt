@@ -9,7 +9,7 @@ ghost use Rattle.head_blocks.specs.Parts.{blocks_of, BlocksSmall, count_in, Bloc
 ghost use Rattle.head_columns.specs.Looks.{FirstBad, EndOfRecords};
 
 use base_variants::{block_of, in_block, in_file};
-use format::{FileVariant, FoundInBlock, FoundInFile, VARIANTS_TO_A_BLOCK};
+use format::{FileVariant, VARIANTS_TO_A_BLOCK};
 use head_blocks::Blocks;
 use head_numbers::{number_at, sum_lengths};
 use head_types::{bad_in_block, types_size};
@@ -19,11 +19,7 @@ pub fn count_in(m: usize, block: usize) -> usize
     requires { (block ≤ 256) × (block * variants_to_a_block < m) }
     ensures { (result ≡ count_in m block) × (1 ≤ result) × (result ≤ variants_to_a_block) }
 {
-    let left = m - block * VARIANTS_TO_A_BLOCK;
-    if left < VARIANTS_TO_A_BLOCK {
-        return left;
-    }
-    VARIANTS_TO_A_BLOCK
+    VARIANTS_TO_A_BLOCK.min(m - block * VARIANTS_TO_A_BLOCK)
 }
 
 // 01, Replies: the place of refusal 8, the "byte holding it".
@@ -33,59 +29,41 @@ pub fn type_place(b: Blocks, v: FileVariant) -> usize
 {
     let at = b.at + block_of(v) * b.full;
     let i = in_block(v);
-    if b.half {
-        return at + i.0 / 2;
-    }
-    at + i.0
+    if b.half { at + i.0 / 2 } else { at + i.0 }
 }
 
 // 01, Replies: 8, "type not allowed". The first variant of the file whose type is not allowed.
-pub fn bad_type(file: &[u8], m: usize, b: Blocks) -> FoundInFile
+pub fn bad_type(file: &[u8], m: usize, b: Blocks) -> Option<FileVariant>
     requires { BlocksFit file.now m b }
     ensures { FirstBad file.now m b result }
 {
-    let at = b.at;
-    let full = b.full;
-    let half = b.half;
-    let blocks = (m + (VARIANTS_TO_A_BLOCK - 1)) / VARIANTS_TO_A_BLOCK;
-    let mut j: usize = 0;
-    while j < blocks {
-        let n = count_in(m, j);
-        match bad_in_block(file, at + j * full, n, half) {
-            FoundInBlock::At(i) => return FoundInFile::At(in_file(j, i)),
-            FoundInBlock::Nowhere => j = j + 1,
+    let blocks = m.div_ceil(VARIANTS_TO_A_BLOCK);
+    for j in 0..blocks {
+        if let Some(i) = bad_in_block(file, b.at + j * b.full, count_in(m, j), b.half) {
+            return Some(in_file(j, i));
         }
     }
-    FoundInFile::Nowhere
+    None
 }
 
-// Where the records of a file end, or the number of the first block whose offset is not where its first record starts.
+// The block whose offset is wrong.
 #[derive(Clone, Copy)]
-pub enum Ends {
-    WrongOffset(usize),
-    RecordsEnd(u64),
-}
+pub struct WrongOffset(pub usize);
 
 // 01: "each block offset is exactly where its first record starts". The first record of all starts at `first`.
-pub fn records_end(file: &[u8], m: usize, b: Blocks, first: usize) -> Ends
+pub fn records_end(file: &[u8], m: usize, b: Blocks, first: usize) -> Result<u64, WrongOffset>
     requires { BlocksFit file.now m b × (first ≤ 134217728) }
     ensures { EndOfRecords file.now m b first result }
 {
-    let at = b.at;
-    let full = b.full;
-    let half = b.half;
-    let width = b.width;
-    let blocks = (m + (VARIANTS_TO_A_BLOCK - 1)) / VARIANTS_TO_A_BLOCK;
-    let mut start: u64 = first as u64;
-    let mut j: usize = 0;
-    while j < blocks {
+    let blocks = m.div_ceil(VARIANTS_TO_A_BLOCK);
+    let mut start = first as u64;
+    for j in 0..blocks {
         if number_at(file, 12 + 8 * j, 8) != start {
-            return Ends::WrongOffset(j);
+            return Err(WrongOffset(j));
         }
         let n = count_in(m, j);
-        let lengths = at + j * full + types_size(n, half);
-        start = start + sum_lengths(file, lengths, n, width);
-        j = j + 1;
+        let lengths = b.at + j * b.full + types_size(n, b.half);
+        start += sum_lengths(file, lengths, n, b.width);
     }
-    Ends::RecordsEnd(start)
+    Ok(start)
 }

@@ -1,5 +1,6 @@
 -- The header check by index: refusals 8 and 9, and acceptance, of a file that has passed 1 to 7.
 -- Assumes nothing.
+use Rattle.std.specs.Prelude.{Some}
 use mathlib.Core.Path.{◌≡◌, refl, sym, ap, ◌∙◌}
 use Prim.Native.Nat.{ℕ, zero, suc, ◌+◌, ◌*◌, ◌≤◌, ◌<◌}
 use native.Mathlib.Nat.{zero-mul, suc-mul}
@@ -10,7 +11,6 @@ use lib.Dec.{eqb, ltb}
 use native.Mathlib.Omega.{arith}
 use borrow.Author.Tests.{lt-ltb, le-ltb}
 use Rattle.format.specs.declared.FileVariant.{FileVariant}
-use Rattle.format.specs.declared.FoundInFile.TheVariants.{At}
 use Rattle.format.specs.Base.{pick, Out, ok, refuse, map_out, numbered, refused, refuse_of}
 use Rattle.format.specs.Numbers.{read_bytes}
 use Rattle.format.specs.Variant.{file_variant, next_variant, in_block, no_variant}
@@ -36,7 +36,7 @@ types_by_index K f v (type ∷ types) next = go (type_allowed (in_block K v) typ
   where
     go : (t : Bool) → need_types K f (next_variant v) types next ≡ refuse_found K f (bad_type K (next_variant v) types) next
         → pick t (need_types K f (next_variant v) types next) (refuse_of v 8 (type_place K f v))
-        ≡ refuse_found K f (pick t (bad_type K (next_variant v) types) (At v)) next
+        ≡ refuse_found K f (pick t (bad_type K (next_variant v) types) (Some v)) next
     go true h = h
     go false h = refl
 

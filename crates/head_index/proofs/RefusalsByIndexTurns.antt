@@ -1,5 +1,6 @@
 -- One turn of each of the code's loops over blocks, for rules 7, 8 and 9: from what was found in block j, what is left.
 -- Assumes nothing.
+use Rattle.std.specs.Prelude.{Option, Some}
 use mathlib.Core.Path.{◌≡◌, refl, sym, ap, ◌∙◌}
 use Prim.Native.Nat.{ℕ, zero, suc, ◌+◌, ◌-◌, ◌*◌, ◌/◌, ◌%◌, ◌≤◌, ◌<◌, min}
 use native.Mathlib.Nat.{add-zero, zero-add, zero-mul, suc-mul, mul-add-mod_self_right, mod-eq_of_lt, min-eq_left, min-le_left, min-le_right, div-lt_iff_lt-mul}
@@ -11,9 +12,6 @@ use lib.Seq.{drop-drop, take-length, drop-cons, take-add}
 use lib.Dec.{eqb}
 use native.Mathlib.Omega.{arith}
 use Rattle.format.specs.declared.BlockVariant.{BlockVariant}
-use Rattle.format.specs.declared.FoundInBlock.{FoundInBlock}
-use Rattle.format.specs.declared.FoundInBlock.TheVariants.{At}
-use Rattle.format.specs.declared.FoundInFile.TheVariants as in_file_as
 use Rattle.format.specs.Base.{pick}
 use Rattle.format.specs.Variant.{file_variant, block_variant}
 use Rattle.format.specs.Layout.{Fixed, unblocked, form_of, Arrays, sum, block_count, cut, block_bytes, block_size, first_record, in_parts, type_allowed}
@@ -105,13 +103,13 @@ first_7 K f bs e = simp (e, zero-mul, sub-zero, add-zero)
 -- ---- rule 8: the types of one block
 
 -- what is found is one of them
-pub found_below : (i : BlockVariant) (types : List ℕ) {x : BlockVariant} → At x ≡ bad_in_block i types → x.0 < i.0 + length types
+pub found_below : (i : BlockVariant) (types : List ℕ) {x : BlockVariant} → Some x ≡ bad_in_block i types → x.0 < i.0 + length types
 unfolding bad_in_block
 found_below i [] e = absurd (let z : ◌≡◌ {A = ℕ} 0 1 = cc in omega arith)
 found_below i (type ∷ types) {x} e = go (type_allowed i type) (λ q. found_below (block_variant (suc i.0)) types q) e
   where
-    go : (t : Bool) → (At x ≡ bad_in_block (block_variant (suc i.0)) types → x.0 < suc i.0 + length types)
-        → At x ≡ pick t (bad_in_block (block_variant (suc i.0)) types) (At i) → x.0 < i.0 + suc (length types)
+    go : (t : Bool) → (Some x ≡ bad_in_block (block_variant (suc i.0)) types → x.0 < suc i.0 + length types)
+        → Some x ≡ pick t (bad_in_block (block_variant (suc i.0)) types) (Some i) → x.0 < i.0 + suc (length types)
     go true h q = omega (arith, h q)
     go false h q = let z : x ≡ i = cc in rw z (omega arith)
 
@@ -127,18 +125,18 @@ bad_block K j i (type ∷ types) rest l =
     let e : i + suc (length types) ≡ suc i + length types = omega arith in
     rw (m, e) (go (type_allowed (block_variant i) type) (rw s at (bad_block K j (suc i) types rest (omega arith))))
   where
-    later : FoundInBlock
+    later : Option BlockVariant
     later = bad_in_block (block_variant (suc i)) types
 
     go : (t : Bool) → bad_type K (file_variant (suc (j * K + i))) (types ++ rest)
         ≡ found_or K j later (bad_type K (file_variant (j * K + (suc i + length types))) rest)
-        → pick t (bad_type K (file_variant (suc (j * K + i))) (types ++ rest)) (in_file_as.At (file_variant (j * K + i)))
-        ≡ found_or K j (pick t later (At (block_variant i))) (bad_type K (file_variant (j * K + (suc i + length types))) rest)
+        → pick t (bad_type K (file_variant (suc (j * K + i))) (types ++ rest)) (Some (file_variant (j * K + i)))
+        ≡ found_or K j (pick t later (Some (block_variant i))) (bad_type K (file_variant (j * K + (suc i + length types))) rest)
     go true h = h
     go false h = refl
 
 -- from the types of block j to those of the next
-pub turn_8 : (K j : ℕ) (x : FoundInBlock) (f : Fixed) (a : Arrays) (records : List ℕ) → Known K f a → j * K < f.variants
+pub turn_8 : (K j : ℕ) (x : Option BlockVariant) (f : Fixed) (a : Arrays) (records : List ℕ) → Known K f a → j * K < f.variants
     → x ≡ bad_in_block (block_variant 0) (digits_at (form_of f).type_bits (drop (block_place K f j) (in_parts K f a records)) 0 (block_variants K f j))
     → bad_type K (file_variant (j * K)) (drop (j * K) a.columns.types)
     ≡ found_or K j x (bad_type K (file_variant (j * K + block_variants K f j)) (drop (j * K + block_variants K f j) a.columns.types))

@@ -1,12 +1,8 @@
 -- The header check's rules by index: what code looks for under 7, 8 and 9, and what each rule leaves to be checked. K is the number of variants to a block.
 -- Assumes nothing.
-use Rattle.std.specs.Prelude.{ℕ, suc, ◌+◌, ◌-◌, ◌*◌, List, [], ◌∷◌, length, take, drop, eqb}
+use Rattle.std.specs.Prelude.{ℕ, suc, ◌+◌, ◌-◌, ◌*◌, List, [], ◌∷◌, length, take, drop, eqb, Option, Some, None}
 use Rattle.format.specs.declared.FileVariant.{FileVariant}
 use Rattle.format.specs.declared.BlockVariant.{BlockVariant}
-use Rattle.format.specs.declared.FoundInBlock.{FoundInBlock}
-use Rattle.format.specs.declared.FoundInBlock.TheVariants as in_block_as
-use Rattle.format.specs.declared.FoundInFile.{FoundInFile}
-use Rattle.format.specs.declared.FoundInFile.TheVariants as in_file_as
 use Rattle.format.specs.Base.{pick, Out, ok, bind, need, refuse_of}
 use Rattle.format.specs.Packed.{one, packed_size}
 use Rattle.format.specs.Variant.{next_variant, block_variant, in_block, in_file}
@@ -40,24 +36,24 @@ unused_arrays K f bs =
 -- ---- 8: "type not allowed"
 
 -- the first such type from variant v on
-unfoldable pub bad_type : ℕ → FileVariant → List ℕ → FoundInFile
-bad_type K v [] = in_file_as.Nowhere
-bad_type K v (type ∷ types) = pick (type_allowed (in_block K v) type) (bad_type K (next_variant v) types) (in_file_as.At v)
+unfoldable pub bad_type : ℕ → FileVariant → List ℕ → Option FileVariant
+bad_type K v [] = None
+bad_type K v (type ∷ types) = pick (type_allowed (in_block K v) type) (bad_type K (next_variant v) types) (Some v)
 
 -- the first of a block's types, from number i on
-unfoldable pub bad_in_block : BlockVariant → List ℕ → FoundInBlock
-bad_in_block i [] = in_block_as.Nowhere
-bad_in_block i (type ∷ types) = pick (type_allowed i type) (bad_in_block (block_variant (suc i.0)) types) (in_block_as.At i)
+unfoldable pub bad_in_block : BlockVariant → List ℕ → Option BlockVariant
+bad_in_block i [] = None
+bad_in_block i (type ∷ types) = pick (type_allowed i type) (bad_in_block (block_variant (suc i.0)) types) (Some i)
 
 -- what was found in a block, as a variant of the file; else what is found after that block
-abbrev pub found_or : ℕ → ℕ → FoundInBlock → FoundInFile → FoundInFile
-found_or K block (in_block_as.At i) later = in_file_as.At (in_file K block i)
-found_or K block in_block_as.Nowhere later = later
+abbrev pub found_or : ℕ → ℕ → Option BlockVariant → Option FileVariant → Option FileVariant
+found_or K block (Some i) later = Some (in_file K block i)
+found_or K block None later = later
 
 -- refused at the type that was found; else what comes next
-abbrev pub refuse_found : {A : Type 0} → ℕ → Fixed → FoundInFile → Out A → Out A
-refuse_found K f (in_file_as.At v) next = refuse_of v 8 (type_place K f v)
-refuse_found K f in_file_as.Nowhere next = next
+abbrev pub refuse_found : {A : Type 0} → ℕ → Fixed → Option FileVariant → Out A → Out A
+refuse_found K f (Some v) next = refuse_of v 8 (type_place K f v)
+refuse_found K f None next = next
 
 -- ---- 9: "block offset wrong, or records don't end at the file's end"
 

@@ -1,11 +1,11 @@
--- Numbers of 1 to 4 bytes read at once, and one turn of the loops that sum them.
+-- The lower bytes of a number, and one turn of the loops that sum numbers.
 -- Assumes nothing.
 use mathlib.Core.Path.{◌≡◌, refl}
 use Prim.Native.Nat.{ℕ, zero, suc, ◌+◌, ◌-◌, ◌*◌, ◌^◌, ◌%◌, ◌≤◌, ◌<◌}
-use native.Mathlib.Nat.{mul-suc, mul-zero, suc-mul, pow-zero, pow-suc, mod-eq_of_lt, add-mul-mod_self_left}
+use native.Mathlib.Nat.{pow-le-pow_right, mul-suc, mul-zero, suc-mul, pow-zero, pow-suc, mod-eq_of_lt, add-mul-mod_self_left}
 use native.Mathlib.Numerals.{add-one}
 use mathlib.Core.List.{List}
-use lib.ListN.{length, drop, get_or}
+use lib.ListN.{drop, get_or}
 use lib.Seq.{drop-drop, get_or-drop}
 use lib.Dec.{lit<}
 use lib.Arith.{digits_lt}
@@ -49,9 +49,12 @@ unfolding numbers_at sum
 first width zero bs h = absurd (omega arith)
 first width (suc n) bs h = let e : suc n - 1 ≡ n = omega arith in rw e refl
 
--- number i of those of one byte stands at index i
-pub each_one_byte : (at i : ℕ) → at + i ≡ at + 1 * i
-each_one_byte at i = omega arith
+-- a number of at most two bytes, and one of at most four
+pub below_short : (w : ℕ) {x : ℕ} → x < 256 ^ w → w ≤ 2 → x ≤ 65535
+below_short w h l = omega (arith, pow-le-pow_right {n = 256} (lit< tt) {i = w} {j = 2} l)
+
+pub below_long : (w : ℕ) {x : ℕ} → x < 256 ^ w → w ≤ 4 → x ≤ 4294967295
+below_long w h l = omega (arith, pow-le-pow_right {n = 256} (lit< tt) {i = w} {j = 4} l)
 
 module _ {bs : List ℕ} {at n width most i total : ℕ} (g : Summing bs at n width most i total) where
   -- one more
@@ -63,23 +66,14 @@ module _ {bs : List ℕ} {at n width most i total : ℕ} (g : Summing bs at n wi
       = rw (e, d, ← drop-drop width (at + width * i) bs) (first width (n - i) (drop (at + width * i) bs) (omega arith)) in
       record { inside = omega arith; small = rw add-one (omega (arith, g.small, suc-mul i most)); same = rw (m, q) (omega (arith, g.same)) }
 
+  -- the same as a wider number
+  pub goes_on_wide : (p : ℕ) {b x : ℕ} → i < n → b ≡ x → x ≡ number_at width (drop p bs) → p ≡ at + width * i → x ≤ most
+      → Summing bs at n width most (i + 1) (total + b)
+  goes_on_wide p h z e d l = rw z (goes_on p h e d l)
+
   -- all of them
   pub finished : n ≤ i → total ≡ sum (numbers_at width n (drop at bs))
   unfolding numbers_at sum
   finished h = let e : n - i ≡ 0 = omega arith in omega (arith, rw e at g.same)
 
-pub ruleset sum_laws = (starts, each_one_byte, goes_on, finished)
-
--- ---- the loop of each width
-
-pub of_width : (bs : List ℕ) (at n width w : ℕ) → width ≡ w → at + width * n ≤ length bs → at + w * n ≤ length bs
-of_width bs at n width w e h = rw e at h
-
-pub sum_of_width : (bs : List ℕ) (at n width w x : ℕ) → width ≡ w → x ≡ sum (numbers_at w n (drop at bs)) → x ≡ sum (numbers_at width n (drop at bs))
-sum_of_width bs at n width w x e h = rw e h
-
--- there is no fifth
-pub width_4 : (width : ℕ) → 1 ≤ width → width ≤ 4 → (width ≡ 1 → ⊥) → (width ≡ 2 → ⊥) → (width ≡ 3 → ⊥) → width ≡ 4
-width_4 width l h a b c = omega arith
-
-pub ruleset width_laws = (of_width, sum_of_width, width_4)
+pub ruleset sum_laws = (starts, below_short, below_long, goes_on, goes_on_wide, finished)

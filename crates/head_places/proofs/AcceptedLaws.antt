@@ -89,9 +89,10 @@ module _ {index held : List ℕ} {f : Fields} {v : FileVariant} (h : HasVariant 
       let l : Layout = h.has.layout in
       let same : fixed f ≡ _ = fields_are h.has.stored h.has.fields_are in
       let mode : unblocked l.mode ≡ true = ap (λ (x : Fields). unblocked x.mode) (sym h.has.fields_are) ∙ holds u e in
+      let t = sym (unblocked_start 65536 v l h.has.stored.obeys mode (omega (arith, below_in h.has h.below))) in
       record {
         has = h.has;
-        is = rw (d ∙ ap (λ (x : Fixed). first_record 65536 x) same, z ∙ ap (λ (x : Fixed). fixed_size x) same) (sym (unblocked_start 65536 v l h.has.stored.obeys mode (omega (arith, below_in h.has h.below))));
+        is = rw (d ∙ ap (λ (x : Fixed). first_record 65536 x) same, z ∙ ap (λ (x : Fixed). fixed_size x) same) t;
       }
 
 pub ruleset start_laws = (fails, variants_few, samples_few, records_fit, same_start_fits, same_start)

@@ -40,9 +40,10 @@ fn start_of(index: &[u8], held: &[u8], f: Fields, v: FileVariant) -> usize
     ensures { Starts index.now held.now f v result }
 {
     if is_unblocked(f.mode) {
-        return first_record(f) + v.0 * fixed_size(f);
+        first_record(f) + v.0 * fixed_size(f)
+    } else {
+        start_in_block(index, held, f, v)
     }
-    start_in_block(index, held, f, v)
 }
 
 pub fn place_of(index: &[u8], held: &[u8], f: Fields, v: FileVariant) -> Place

@@ -36,13 +36,6 @@ pub first_bytes : (w k at width : ℕ) (bs : List ℕ) {n : ℕ} → width ≡ w
     → n % 256 ^ w ≡ number_at width (drop at bs)
 first_bytes w k at width bs d y e = rw d (low_bytes w k at bs y e)
 
-pub all_bytes_of : (w at width : ℕ) (bs : List ℕ) {n : ℕ} → width ≡ w → n ≡ number_at w (drop at bs) → n ≡ number_at width (drop at bs)
-all_bytes_of w at width bs d e = rw d e
-
--- past the end a byte counts as 0
-pub byte_past : (bs : List ℕ) (p : ℕ) → length bs ≤ p → 0 ≡ get_or bs p 0
-byte_past bs p l = sym (get_or-eq_default bs 0 l)
-
 -- ---- a variant's type and length, where there are blocks
 
 pub below_most : {n m : ℕ} → n < m → m ≤ 16777216 → n < 16777216

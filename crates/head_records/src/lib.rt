@@ -14,14 +14,14 @@ use base_variants::{block_of, in_block};
 use format::{Fields, FileVariant};
 use head_blocks::{blocks_of, fixed_size, fixed_type, is_unblocked};
 use head_columns::{count_in, type_place};
-use head_numbers::number_4;
+use head_numbers::number_of;
 use head_types::{type_at, types_size};
 
 // The byte at p.
 pub fn byte_at(s: &[u8], p: usize) -> u8
     ensures { result ≡ get_or s.now p 0 }
 {
-    if p < s.len() { s[p] } else { 0 }
+    s.get(p).copied().unwrap_or(0)
 }
 
 // 01, What the software covers: "All numbers are little-endian." The number in the four bytes at a place.
@@ -30,12 +30,12 @@ fn four_at(file: &[u8], at: usize) -> u32
     ensures { result ≡ number_at 4 (drop at file.now) }
 {
     if at + 4 <= file.len() {
-        return number_4(file, at);
+        return number_of::<4>(file, at);
     }
-    byte_at(file, at) as u32
-        + 256 * byte_at(file, at + 1) as u32
-        + 65536 * byte_at(file, at + 2) as u32
-        + 16777216 * byte_at(file, at + 3) as u32
+    u32::from(byte_at(file, at))
+        + 256 * u32::from(byte_at(file, at + 1))
+        + 65536 * u32::from(byte_at(file, at + 2))
+        + 16777216 * u32::from(byte_at(file, at + 3))
 }
 
 // The number in the first `width` of them: one read for every width.
@@ -44,16 +44,12 @@ fn number_from(file: &[u8], at: usize, width: usize) -> usize
     ensures { result ≡ number_at width (drop at file.now) }
 {
     let four = four_at(file, at) as usize;
-    if width == 1 {
-        return four % 256;
+    match width {
+        1 => four % 256,
+        2 => four % 65536,
+        3 => four % 16777216,
+        _ => four,
     }
-    if width == 2 {
-        return four % 65536;
-    }
-    if width == 3 {
-        return four % 16777216;
-    }
-    four
 }
 
 // The type of a variant, as it is stored where there are blocks.
@@ -63,9 +59,10 @@ pub fn stored_type(file: &[u8], f: Fields, v: FileVariant) -> u8
 {
     let b = blocks_of(f);
     if type_place(b, v) < file.len() {
-        return type_at(file, b.at + block_of(v) * b.full, in_block(v), b.half);
+        type_at(file, b.at + block_of(v) * b.full, in_block(v), b.half)
+    } else {
+        0
     }
-    0
 }
 
 // Where the lengths of a variant's block start, where there are blocks.
@@ -95,9 +92,10 @@ pub fn type_of(file: &[u8], f: Fields, v: FileVariant) -> u8
     ensures { result ≡ record_type variants_to_a_block (fixed f) file.now v }
 {
     if is_unblocked(f.mode) {
-        return fixed_type(f);
+        fixed_type(f)
+    } else {
+        stored_type(file, f, v)
     }
-    stored_type(file, f, v)
 }
 
 pub fn size_of(file: &[u8], f: Fields, v: FileVariant) -> usize
@@ -105,7 +103,8 @@ pub fn size_of(file: &[u8], f: Fields, v: FileVariant) -> usize
     ensures { result ≡ record_size variants_to_a_block (fixed f) file.now v }
 {
     if is_unblocked(f.mode) {
-        return fixed_size(f);
+        fixed_size(f)
+    } else {
+        length_of(file, f, v)
     }
-    length_of(file, f, v)
 }

@@ -1,5 +1,6 @@
 -- The flat check of a block's types: one byte, one turn of the loop, and what it says of the block.
 -- Assumes nothing.
+use Rattle.std.specs.Prelude.{Some, None}
 use mathlib.Core.Path.{◌≡◌, refl, sym, ◌∙◌}
 use Prim.Native.Nat.{ℕ, zero, suc, ◌+◌, ◌-◌, ◌/◌, ◌%◌, ◌^◌, ◌≤◌, ◌<◌}
 use native.Mathlib.Nat.{div-one, pow-zero, mod-lt, div-lt_iff_lt-mul, lt-div-mul-add, zero-lt-suc}
@@ -7,14 +8,10 @@ use mathlib.Core.Bool.{Bool, true, false}
 use mathlib.Core.List.{List}
 use lib.ListN.{drop, get_or}
 use lib.Seq.{get_or-drop}
-use lib.Dec.{eqb}
 use mir.Syntax.{w8}
 use mir.Val.{Fits}
 use native.Mathlib.Omega.{arith}
 use native.Mathlib.Numerals.{add-one}
-use borrow.Author.Tests.{eqb-true}
-use borrow.Author.Count.{below_more}
-use Rattle.format.specs.declared.FoundInBlock.TheVariants.{At, Nowhere}
 use Rattle.format.specs.Base.{pick}
 use Rattle.format.specs.Packed.{Bits, four, eight, more, packed_size}
 use Rattle.format.specs.Body.{type_leans}
@@ -60,23 +57,7 @@ pub record Flat (bs : List ℕ) (at size : ℕ) (bits : Bits) (worst k : ℕ) : 
   pub inside : k ≤ size
   pub fine : worst ≡ 0 → (p : ℕ) → p < k → FineByte bits (get_or bs (at + p) 0)
 
--- none yet
-pub starts : (bs : List ℕ) (at size : ℕ) (bits : Bits) → Flat bs at size bits 0 0
-starts bs at size bits = record { inside = omega arith; fine = λ z p h. absurd (omega arith) }
-
-module _ {bs : List ℕ} {at size : ℕ} {bits : Bits} {worst k : ℕ} (g : Flat bs at size bits worst k) where
-  -- one more
-  pub goes_on : {x next : ℕ} → k < size → (x ≡ 0 → FineByte bits (get_or bs (at + k) 0)) → worst ≤ next → x ≤ next → Flat bs at size bits next (k + 1)
-  goes_on h f l m = record {
-    inside = omega arith;
-    fine = λ z. below_more (λ (p : ℕ). FineByte bits (get_or bs (at + p) 0)) k (g.fine (omega arith)) (f (omega arith));
-  }
-
-  -- all
-  pub ends : size ≤ k → eqb worst 0 ≡ true → FineBytes bs at size bits
-  ends h z = record { each = λ p l. g.fine (eqb-true worst 0 z) p (omega arith) }
-
-pub ruleset flat_laws = (half_fine, whole_fine, starts, goes_on, ends)
+pub ruleset flat_laws = (half_fine, whole_fine)
 
 -- ---- what it says of a block
 
@@ -90,7 +71,7 @@ each_fine bs at n bits i g h =
 
 -- types that are allowed are passed
 all_allowed : (bs : List ℕ) (n : ℕ) (bits : Bits) (left i : ℕ) → i + left ≡ n → ((k : ℕ) → k < n → type_allowed (block_variant k) (digit_at bits bs k) ≡ true)
-    → bad_in_block (block_variant i) (digits_at bits bs i left) ≡ Nowhere
+    → bad_in_block (block_variant i) (digits_at bits bs i left) ≡ None
 unfolding bad_in_block digits_at
 all_allowed bs n bits zero i e g = refl
 all_allowed bs n bits (suc left) i e g = simp (g i (omega arith), add-one) (all_allowed bs n bits left (suc i) (omega arith) g)
@@ -98,7 +79,7 @@ all_allowed bs n bits (suc left) i e g = simp (g i (omega arith), add-one) (all_
 -- the first type does not lean, and all are fine
 pub none_bad : (bs : List ℕ) (at n : ℕ) (bits : Bits) {first size : ℕ} {lean fine : Bool} → first ≡ digit_at bits (drop at bs) 0 → lean ≡ type_leans first
     → lean ≡ false → size ≡ packed_size bits n → (fine ≡ true → FineBytes bs at size bits) → fine ≡ true
-    → Nowhere ≡ bad_in_block (block_variant 0) (digits_at bits (drop at bs) 0 n)
+    → None ≡ bad_in_block (block_variant 0) (digits_at bits (drop at bs) 0 n)
 none_bad bs at n bits d e l s f t = sym (all_allowed (drop at bs) n bits n 0 (omega arith) allowed)
   where
     g : FineBytes bs at (packed_size bits n) bits
@@ -114,7 +95,7 @@ none_bad bs at n bits d e l s f t = sym (all_allowed (drop at bs) n bits n 0 (om
 
 -- the first type leans
 pub first_bad : (bs : List ℕ) (at n : ℕ) (bits : Bits) {first : ℕ} {lean : Bool} → 1 ≤ n → first ≡ digit_at bits (drop at bs) 0 → lean ≡ type_leans first
-    → lean ≡ true → At (block_variant 0) ≡ bad_in_block (block_variant 0) (digits_at bits (drop at bs) 0 n)
+    → lean ≡ true → Some (block_variant 0) ≡ bad_in_block (block_variant 0) (digits_at bits (drop at bs) 0 n)
 first_bad bs at n bits h d e l =
     let z : n - 0 ≡ n = omega arith in
     let a : type_allowed (block_variant 0) (digit_at bits (drop at bs) 0) ≡ false

@@ -1,5 +1,6 @@
 -- One turn of the loop of `scan`.
 -- Assumes nothing.
+use Rattle.std.specs.Prelude.{Some, None}
 use mathlib.Core.Path.{◌≡◌, refl}
 use Prim.Native.Nat.{ℕ, suc, ◌+◌, ◌-◌, ◌≤◌, ◌<◌}
 use native.Mathlib.Numerals.{add-one}
@@ -8,7 +9,6 @@ use mathlib.Core.List.{List}
 use lib.ListN.{drop}
 use native.Mathlib.Omega.{arith}
 use borrow.Author.Tests.{not-true, not-false}
-use Rattle.format.specs.declared.FoundInBlock.TheVariants.{At, Nowhere}
 use Rattle.format.specs.Base.{pick}
 use Rattle.format.specs.Packed.{Bits}
 use Rattle.format.specs.Variant.{block_variant}
@@ -30,13 +30,13 @@ starts bs at n bits = let e : n - 0 ≡ n = omega arith in record { inside = ome
 pub next_type : (bs : List ℕ) (n : ℕ) (bits : Bits) (i : ℕ) → i < n
     → bad_in_block (block_variant i) (digits_at bits bs i (n - i))
     ≡ pick (type_allowed (block_variant i) (digit_at bits bs i)) (bad_in_block (block_variant (suc i)) (digits_at bits bs (suc i) (n - suc i)))
-    (At (block_variant i))
+    (Some (block_variant i))
 unfolding bad_in_block digits_at
 next_type bs n bits i h = let e : n - i ≡ suc (n - suc i) = omega arith in rw (e, add-one) refl
 
 module _ {bs : List ℕ} {at n : ℕ} {bits : Bits} {i : ℕ} (g : Scanning bs at n bits i) where
   module _ {type : ℕ} {allowed : Bool} (h : i < n) (d : type ≡ digit_at bits (drop at bs) i) (e : allowed ≡ type_allowed (block_variant i) type) where
-    next : {t : Bool} → allowed ≡ t → pick t (bad_in_block (block_variant (suc i)) (digits_at bits (drop at bs) (suc i) (n - suc i))) (At (block_variant i))
+    next : {t : Bool} → allowed ≡ t → pick t (bad_in_block (block_variant (suc i)) (digits_at bits (drop at bs) (suc i) (n - suc i))) (Some (block_variant i))
         ≡ bad_in_block (block_variant 0) (digits_at bits (drop at bs) 0 n)
     next y = rw (← y, e, d, ← next_type (drop at bs) n bits i h) g.same
 
@@ -45,11 +45,11 @@ module _ {bs : List ℕ} {at n : ℕ} {bits : Bits} {i : ℕ} (g : Scanning bs a
     goes_on y = rw add-one (record { inside = h; same = next (not-false allowed y) })
 
     -- it is not
-    pub stops : not allowed ≡ true → At (block_variant i) ≡ bad_in_block (block_variant 0) (digits_at bits (drop at bs) 0 n)
+    pub stops : not allowed ≡ true → Some (block_variant i) ≡ bad_in_block (block_variant 0) (digits_at bits (drop at bs) 0 n)
     stops y = next (not-true allowed y)
 
   -- all are
-  pub ends : n ≤ i → Nowhere ≡ bad_in_block (block_variant 0) (digits_at bits (drop at bs) 0 n)
+  pub ends : n ≤ i → None ≡ bad_in_block (block_variant 0) (digits_at bits (drop at bs) 0 n)
   unfolding bad_in_block digits_at
   ends h = let e : n - i ≡ 0 = omega arith in rw e at g.same
 

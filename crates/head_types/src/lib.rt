@@ -13,7 +13,7 @@ ghost use Rattle.head_index.specs.Rules.{bad_in_block};
 ghost use Rattle.head_types.specs.Fine.{Fine, FineByte, FineBytes};
 
 use base_rows::larger;
-use format::{BlockVariant, FoundInBlock};
+use format::BlockVariant;
 
 // 01, The header: "packed types (low nibble first)". The type of variant i of a block whose types start at `at`; `half`: types of 4 bits, else of 8.
 pub fn type_at(file: &[u8], at: usize, i: BlockVariant, half: bool) -> u8
@@ -21,14 +21,11 @@ pub fn type_at(file: &[u8], at: usize, i: BlockVariant, half: bool) -> u8
     ensures { result ≡ digit_at (pick half four eight) (drop at file.now) i.0 }
 {
     let n = i.0;
-    if half {
-        let byte = file[at + n / 2];
-        if n % 2 == 0 {
-            return byte % 16;
-        }
-        return byte / 16;
+    if !half {
+        return file[at + n];
     }
-    file[at + n]
+    let byte = file[at + n / 2];
+    if n % 2 == 0 { byte % 16 } else { byte / 16 }
 }
 
 // 01: "A type's low three bits are its kind."
@@ -42,14 +39,7 @@ pub fn kind_of(record_type: u8) -> u8
 pub fn type_leans(record_type: u8) -> bool
     ensures { result ≡ type_leans record_type }
 {
-    let kind = kind_of(record_type);
-    if kind == 2 {
-        return true;
-    }
-    if kind == 3 {
-        return true;
-    }
-    false
+    matches!(kind_of(record_type), 2 | 3)
 }
 
 // 02, Ask 1: "record type bit 4" says that a phase track follows the main track.
@@ -63,57 +53,39 @@ pub fn type_phased(record_type: u8) -> bool
 fn bits_allowed(record_type: u8) -> bool
     ensures { result ≡ bits_allowed record_type }
 {
-    if 8 <= record_type % 16 {
-        return false;
-    }
-    record_type < 32
+    record_type % 16 < 8 && record_type < 32
 }
 
 // 01: "A type is allowed if its kind is not 5, all its other bits are 0, and its kind is not 2 or 3 at the first variant of a block."
 pub fn type_allowed(i: BlockVariant, record_type: u8) -> bool
     ensures { result ≡ type_allowed i record_type }
 {
-    if !bits_allowed(record_type) {
-        return false;
-    }
-    if kind_of(record_type) == 5 {
-        return false;
-    }
-    if i.0 == 0 {
-        if type_leans(record_type) {
-            return false;
-        }
-    }
-    true
+    bits_allowed(record_type) && kind_of(record_type) != 5 && !(i.0 == 0 && type_leans(record_type))
 }
 
 // The first of n types of a block that is not allowed, looked for one by one.
-fn scan(file: &[u8], at: usize, n: usize, half: bool) -> FoundInBlock
+fn scan(file: &[u8], at: usize, n: usize, half: bool) -> Option<BlockVariant>
     requires { at + packed_size (pick half four eight) n ≤ length file.now }
     ensures { result ≡ bad_in_block (block_variant 0) (digits_at (pick half four eight) (drop at file.now) 0 n) }
 {
-    let mut i = 0;
-    while i < n {
-        let record_type = type_at(file, at, BlockVariant(i), half);
-        if !type_allowed(BlockVariant(i), record_type) {
-            return FoundInBlock::At(BlockVariant(i));
+    for i in 0..n {
+        let v = BlockVariant(i);
+        if !type_allowed(v, type_at(file, at, v, half)) {
+            return Some(v);
         }
-        i = i + 1;
     }
-    FoundInBlock::Nowhere
+    None
 }
 
 // 1 for a type that is allowed nowhere, else 0: for kinds 2 and 3 at a block's first variant see `bad_in_block`.
 fn amiss(record_type: u8) -> u8
     ensures { result ≡ 0 → Fine record_type }
 {
-    if !bits_allowed(record_type) {
-        return 1;
+    if bits_allowed(record_type) && kind_of(record_type) != 5 {
+        0
+    } else {
+        1
     }
-    if kind_of(record_type) == 5 {
-        return 1;
-    }
-    0
 }
 
 // The same of the types in one byte.
@@ -121,9 +93,10 @@ fn amiss_in(byte: u8, half: bool) -> u8
     ensures { result ≡ 0 → FineByte (pick half four eight) byte }
 {
     if half {
-        return larger(amiss(byte % 16), amiss(byte / 16));
+        larger(amiss(byte % 16), amiss(byte / 16))
+    } else {
+        amiss(byte)
     }
-    amiss(byte)
 }
 
 // Whether no byte of an array of types has one that is allowed nowhere: one flat loop with no exit, as accepted files are the common case.
@@ -132,10 +105,8 @@ fn none_amiss(file: &[u8], at: usize, size: usize, half: bool) -> bool
     ensures { result ≡ true → FineBytes file.now at size (pick half four eight) }
 {
     let mut worst: u8 = 0;
-    let mut k = 0;
-    while k < size {
+    for k in 0..size {
         worst = larger(worst, amiss_in(file[at + k], half));
-        k = k + 1;
     }
     worst == 0
 }
@@ -145,22 +116,19 @@ pub fn types_size(n: usize, half: bool) -> usize
     requires { n ≤ variants_to_a_block }
     ensures { result ≡ packed_size (pick half four eight) n }
 {
-    if half {
-        return (n + 1) / 2;
-    }
-    n
+    if half { n.div_ceil(2) } else { n }
 }
 
 // 01, Replies: 8, "type not allowed". The first of a block's types that is not allowed.
-pub fn bad_in_block(file: &[u8], at: usize, n: usize, half: bool) -> FoundInBlock
+pub fn bad_in_block(file: &[u8], at: usize, n: usize, half: bool) -> Option<BlockVariant>
     requires { (1 ≤ n) × (n ≤ variants_to_a_block) × (at + packed_size (pick half four eight) n ≤ length file.now) }
     ensures { result ≡ bad_in_block (block_variant 0) (digits_at (pick half four eight) (drop at file.now) 0 n) }
 {
     if type_leans(type_at(file, at, BlockVariant(0), half)) {
-        return FoundInBlock::At(BlockVariant(0));
+        return Some(BlockVariant(0));
     }
     if none_amiss(file, at, types_size(n, half), half) {
-        return FoundInBlock::Nowhere;
+        return None;
     }
     scan(file, at, n, half)
 }
@@ -170,13 +138,10 @@ pub fn nearest_before(file: &[u8], at: usize, i: BlockVariant, half: bool) -> Bl
     requires { at + packed_size (pick half four eight) i.0 ≤ length file.now }
     ensures { result ≡ nearest (digits_at (pick half four eight) (drop at file.now) 0 i.0) i }
 {
-    let n = i.0;
-    let mut k = n;
-    while 0 < k {
-        k = k - 1;
-        let record_type = type_at(file, at, BlockVariant(k), half);
-        if !type_leans(record_type) {
-            return BlockVariant(k);
+    for k in (0..i.0).rev() {
+        let v = BlockVariant(k);
+        if !type_leans(type_at(file, at, v, half)) {
+            return v;
         }
     }
     BlockVariant(0)

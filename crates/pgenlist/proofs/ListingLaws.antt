@@ -1,22 +1,21 @@
 -- What holds while a file is listed: the whole-file check has accepted it, so no row is refused.
 -- Assumes nothing.
+use Rattle.std.specs.Prelude.{Result, Ok, Err, ⊤}
 use mathlib.Core.Path.{◌≡◌, refl, sym, ap, ◌∙◌, subst}
 use Prim.Native.Nat.{ℕ, suc, ◌-◌, ◌≤◌, ◌<◌}
 use mathlib.Core.Bool.{true}
-use mathlib.Core.List.{List}
-use lib.ListN.{length, get_or}
+use mathlib.Core.List.{List, ◌++◌}
+use lib.ListN.{length, get_or, drop, length-append}
+use Rattle.std.proofs.lemmas.List.{length-drop}
+use Rattle.format.specs.declared.Refusal.{Refusal}
 use lib.Dec.{lit<}
 use mir.Syntax.{w8}
 use mir.Val.{Fits}
 use native.Mathlib.Omega.{arith}
 use Rattle.format.specs.declared.Fields.{Fields}
-use Rattle.format.specs.declared.HeaderReply.{HeaderReply}
-use Rattle.format.specs.declared.HeaderReply.TheVariants.{Accepted}
-use Rattle.format.specs.declared.Reply.{Reply}
-use Rattle.format.specs.declared.Reply.TheVariants as done
 use Rattle.format.specs.Base.{Bytes}
 use Rattle.format.specs.Limits.{most_samples, most_variants, variants_to_a_block}
-use Rattle.format.specs.Reply.{Verdict, verdict, plain_answer, Checked, check_left, check_call}
+use Rattle.format.specs.Reply.{Verdict, verdict, answer, Checked, check_left, check_call}
 use Rattle.format.proofs.Unique.{apart}
 use Rattle.head_index.specs.Stored.{Stored}
 use Rattle.head_index.proofs.StoredLaws.{stored_whole}
@@ -36,16 +35,16 @@ pub taken : (rows : Rows) (file row work row₁ work₁ : List ℕ) (step : RowS
     → row_left step row₁ work₁ ≡ next_row_call rows file row work → RowTaken rows file row work step.rows row₁ work₁
 taken rows file row work row₁ work₁ step t e = go step.reply (ap (λ (z : Left). z.verdict.accepted) e ∙ t) ∙ e
   where
-    go : (r : Reply) → (verdict (plain_answer r)).accepted ≡ true
-        → ◌≡◌ {A = Left} (record { verdict = verdict (plain_answer done.Accepted); rows = step.rows; output = row₁; work = work₁ })
-        (record { verdict = verdict (plain_answer r); rows = step.rows; output = row₁; work = work₁ })
-    go done.Accepted p = refl
-    go (done.Refused why) p = apart (sym p)
+    go : (r : Result ⊤ Refusal) → (verdict (answer r)).accepted ≡ true
+        → ◌≡◌ {A = Left} (record { verdict = verdict (answer {A = Unit {0}} (Ok tt)); rows = step.rows; output = row₁; work = work₁ })
+        (record { verdict = verdict (answer r); rows = step.rows; output = row₁; work = work₁ })
+    go (Ok tt) p = refl
+    go (Err why) p = apart (sym p)
 
 -- ---- `put_rows`
 
 -- before each variant
-pub record Listing (file : List ℕ) (f : Fields) (work₀ row₀ out₀ work row out : List ℕ) (rows : Rows) : Type 0 where
+pub record Listing (file : List ℕ) (f : Fields) (work₀ row₀ work row : List ℕ) (rows : Rows) : Type 0 where
   pub checked : Whole file f
   pub held : f.samples ≤ length work₀
   pub before : Before checked.layout work₀ rows.variant.0 rows work
@@ -53,7 +52,6 @@ pub record Listing (file : List ℕ) (f : Fields) (work₀ row₀ out₀ work ro
   pub room : f.samples ≤ length row
   pub works : length work ≡ length work₀
   pub rows_long : length row ≡ length row₀
-  pub outs : length out ≡ length out₀
 
 module _ (file : List ℕ) (f : Fields) (work row : List ℕ) (c : FileChecked file f work row) (known : (i : ℕ) → Fits w8 (get_or file i 0)) where
   bytes : Bytes file
@@ -77,8 +75,8 @@ module _ (file : List ℕ) (f : Fields) (work row : List ℕ) (c : FileChecked f
   enough : f.samples ≤ length work
   enough = omega (arith, work_held file c.before bytes none, ap (λ (z : Fields). z.samples) fields, c.as_long)
 
-  pub listing_begins : (out : List ℕ) (rows : Rows) → rows ≡ first_row f → Listing file f work row out work row out rows
-  listing_begins out rows e =
+  pub listing_begins : (rows : Rows) → rows ≡ first_row f → Listing file f work row work row rows
+  listing_begins rows e =
       rw e
       (record {
         checked = its_whole;
@@ -88,10 +86,9 @@ module _ (file : List ℕ) (f : Fields) (work row : List ℕ) (c : FileChecked f
         room = omega (arith, accepted.few_samples stored its_whole.fields_are, c.room);
         works = refl;
         rows_long = refl;
-        outs = refl;
       })
 
-module _ {file : List ℕ} {f : Fields} {work₀ row₀ out₀ work row out : List ℕ} {rows : Rows} (i : Listing file f work₀ row₀ out₀ work row out rows)
+module _ {file : List ℕ} {f : Fields} {work₀ row₀ work row : List ℕ} {rows : Rows} (i : Listing file f work₀ row₀ work row rows)
     (b : rows.variant.0 < f.variants) where
   pub not_refused : (next_row_call rows file row work).verdict.accepted ≡ true
   not_refused =
@@ -106,17 +103,20 @@ module _ {file : List ℕ} {f : Fields} {work₀ row₀ out₀ work row out : Li
     one_on : later.variant.0 ≡ suc rows.variant.0
     one_on = ap (λ (z : Rows). z.variant.0) moved.state_is
 
-    pub listing_goes_on : (out₁ : List ℕ) → length out₁ ≡ length out → length row₁ ≡ length row → length work₁ ≡ length work
-        → Listing file f work₀ row₀ out₀ work₁ row₁ out₁ later
-    listing_goes_on out₁ o r w = record {
+    -- the row's categories were then replaced by as many digits
+    as_long : (shown : List ℕ) → length shown ≡ f.samples → length row₁ ≡ length row → length (shown ++ drop f.samples row₁) ≡ length row
+    as_long shown s r = omega (arith, length-append shown (drop f.samples row₁), length-drop f.samples row₁, s, r, i.room)
+
+    pub listing_goes_on : (shown : List ℕ) → length shown ≡ f.samples → length row₁ ≡ length row → length work₁ ≡ length work
+        → Listing file f work₀ row₀ work₁ (shown ++ drop f.samples row₁) later
+    listing_goes_on shown s r w = record {
       checked = i.checked;
       held = i.held;
       before = subst (λ (v : ℕ). Before i.checked.layout work₀ v later work₁) (sym one_on) moved;
       few = i.few;
-      room = omega (arith, i.room);
+      room = omega (arith, as_long shown s r, i.room);
       works = w ∙ i.works;
-      rows_long = r ∙ i.rows_long;
-      outs = o ∙ i.outs;
+      rows_long = as_long shown s r ∙ i.rows_long;
     }
 
     pub nearer : f.variants - later.variant.0 < f.variants - rows.variant.0
@@ -126,6 +126,6 @@ pub ruleset rows_laws = (few_variants, listing_begins, not_refused, listing_goes
 
 -- ---- `list`
 
-pub listed : (file work work₁ row : List ℕ) (r : HeaderReply) (f : Fields) → check_left r work₁ ≡ check_call variants_to_a_block file work → r ≡ Accepted f
+pub listed : (file work work₁ row : List ℕ) (r : Result Fields Refusal) (f : Fields) → check_left r work₁ ≡ check_call variants_to_a_block file work → r ≡ Ok f
     → length work₁ ≡ length work → length row ≡ most_samples → FileChecked file f work₁ row
 listed file work work₁ row r f e q w h = record { before = work; is_accepted = rw q at e; as_long = w; room = h }

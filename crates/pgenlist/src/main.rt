@@ -7,38 +7,23 @@ ghost use Rattle.call_rows.specs.Calls.{next_row_call};
 ghost use Rattle.pgenlist.specs.Listing.{FileChecked, RowTaken};
 
 use call_rows::{Rows, first_row};
-use format::{Fields, FileVariant, HeaderReply, MOST_SAMPLES, Refusal};
+use format::{Fields, FileVariant, MOST_SAMPLES};
 use head_records::type_of;
 use pgen::next_row;
+use std::alloc::Global;
+use std::io;
+use std::io::{BufWriter, Read, Write};
 
 // 01: "The listing program reads at most 65,536 bytes from standard input."
 const MOST_INPUT: usize = 65536;
 
-// One byte more shows that there are more.
-fn input_space() -> [u8; MOST_INPUT + 1]
-    ensures { 65537 ≡ length result }
-{
-    [0; MOST_INPUT + 1]
-}
+// The output leaves in writes of so many bytes.
+const MOST_HELD: usize = 65536;
 
 fn row_space() -> [u8; MOST_SAMPLES]
     ensures { most_samples ≡ length result }
 {
     [0; MOST_SAMPLES]
-}
-
-// 01: "per variant its number, its type in decimal and its categories as digits"
-fn put_row(out: &mut [u8], at: usize, v: FileVariant, record_type: u8, row: &[u8]) -> usize {
-    let mut filled = text::put_decimal(out, at, v.0);
-    filled = text::put(out, filled, b' ');
-    filled = text::put_decimal(out, filled, record_type as usize);
-    filled = text::put(out, filled, b' ');
-    let mut i = 0;
-    while i < row.len() {
-        filled = text::put(out, filled, b'0' + row[i] % 4);
-        i = i + 1;
-    }
-    text::put(out, filled, b'\n')
 }
 
 // The next row, where it is proved that none is refused: so the state moved on is all that the call answers.
@@ -50,75 +35,108 @@ fn take_row(rows: Rows, file: &[u8], row: &mut [u8], work: &mut [u8]) -> Rows
     step.rows
 }
 
+// 01: "per variant its number, its type in decimal and its categories as digits". The digits take the categories' place: the next row is put over them.
+fn put_row<W: Write>(
+    out: &mut W,
+    v: FileVariant,
+    record_type: u8,
+    row: &mut [u8],
+) -> io::Result<()> {
+    for category in row.iter_mut() {
+        *category = b'0' + *category % 4;
+    }
+    write!(out, "{} {record_type} ", v.0)?;
+    out.write_all(row)?;
+    out.write_all(b"\n")
+}
+
 // Every row of a file that the whole-file check has accepted, one variant after another.
-fn put_rows(
+fn put_rows<W: Write>(
+    out: &mut W,
     file: &[u8],
     f: Fields,
     work: &mut [u8],
     row: &mut [u8],
-    out: &mut [u8],
-    at: usize,
-) -> usize
+) -> io::Result<()>
     requires { FileChecked file.now f work.old row.old }
 {
     let m = f.variants;
     let n = f.samples;
     let mut rows = first_row(f);
-    let mut filled = at;
     while rows.variant.0 < m {
         let v = rows.variant;
         rows = take_row(rows, file, row, work);
-        filled = put_row(out, filled, v, type_of(file, f, v), &row[..n]);
+        put_row(out, v, type_of(file, f, v), &mut row[..n])?;
     }
-    filled
-}
-
-// 01: "A refused file gives only the line `refused`, number, place, spaced likewise".
-fn put_refused(out: &mut [u8], why: Refusal) -> usize {
-    let mut filled = text::put_all(out, 0, b"refused ");
-    filled = text::put_decimal(out, filled, why.number as usize);
-    filled = text::put(out, filled, b' ');
-    filled = text::put_decimal(out, filled, why.place);
-    text::put(out, filled, b'\n')
+    Ok(())
 }
 
 // 01: "the listing program before it prints, make the whole-file check"
-fn list(file: &[u8], work: &mut [u8], row: &mut [u8], out: &mut [u8]) -> usize
+// 01: "A refused file gives only the line `refused`, number, place, spaced likewise".
+fn list<W: Write>(out: &mut W, file: &[u8], work: &mut [u8], row: &mut [u8]) -> io::Result<()>
     requires { length row.old ≡ most_samples }
 {
     let found = pgen::check(file, work);
     match found {
-        HeaderReply::Refused(why) => put_refused(out, why),
-        HeaderReply::Accepted(fields) => {
-            let mut filled = text::put_decimal(out, 0, fields.variants);
-            filled = text::put(out, filled, b' ');
-            filled = text::put_decimal(out, filled, fields.samples);
-            filled = text::put(out, filled, b'\n');
-            put_rows(file, fields, work, row, out, filled)
+        Err(why) => writeln!(out, "refused {} {}", why.number, why.place),
+        Ok(fields) => {
+            writeln!(out, "{} {}", fields.variants, fields.samples)?;
+            put_rows(out, file, fields, work, row)
         }
     }
 }
 
-// The file is what was read; a longer input is not looked at.
-fn run(input: &mut [u8], work: &mut [u8], row: &mut [u8], out: &mut [u8])
-    requires { length row.old ≡ most_samples }
-{
-    let count = io::read_full(0, input);
-    if MOST_INPUT < count {
-        let filled = text::put_all(out, 0, b"too large\n");
-        text::flush(out, filled);
-        return;
-    }
-    if count <= input.len() {
-        let filled = list(&input[..count], work, row, out);
-        text::flush(out, filled);
-    }
-}
-
-fn main() {
-    let mut input = input_space();
+// A longer input is not looked at.
+fn put_listing<W: Write>(out: &mut W, input: &[u8]) -> io::Result<()> {
     let mut work = row_space();
     let mut row = row_space();
-    let mut out = io::large_buffer();
-    run(&mut input, &mut work, &mut row, &mut out);
+    if MOST_INPUT < input.len() {
+        return writeln!(out, "too large");
+    }
+    list(out, input, &mut work, &mut row)
+}
+
+// One byte more than may be shows that there are more. Input that can't be read ends there, and what can't be written is lost.
+fn run<R: Read + Drop, W: Write + Drop>(alloc: Global, input: R, out: W) -> io::Result<()> {
+    let mut file = Vec::with_capacity(alloc, MOST_INPUT + 1)?;
+    let mut held = BufWriter::with_capacity(alloc, MOST_HELD, out)?;
+    let _ = input.take(MOST_INPUT as u64 + 1).read_to_end(&mut file);
+    let _ = put_listing(&mut held, &file);
+    let _ = held.flush();
+    Ok(())
+}
+
+fn main(rt: HostRuntime) -> io::Result<()> {
+    run(rt.alloc(), rt.stdin(), rt.stdout())
+}
+
+#[cfg(test)]
+mod tests {
+    use super::*;
+    use std::test::Fail;
+
+    // File A of document 01, and cut by one byte.
+    #[test]
+    fn lists(rt: HostRuntime) -> Result<(), Fail> {
+        let file =
+            b"\x6c\x1b\x10\x03\x00\x00\x00\x05\x00\x00\x00\x40\x19\x00\x00\x00\x00\x00\x00\x00\x20\x04\x02\x04\x03\xe4\x00\x02\x01\x06\x03\x01\x02\x03";
+        let alloc = rt.alloc();
+        let mut out = Vec::new(alloc);
+        run(alloc, &file[..], &mut out)?;
+        run(alloc, &file[..33], &mut out)?;
+        let want = "3 5\n0 0 01230\n1 2 02231\n2 4 00300\nrefused 9 33\n";
+        assert_eq!(rt; out.as_slice(), want.as_bytes());
+        Ok(())
+    }
+
+    // The longest input that is looked at, and one byte more.
+    #[test]
+    fn looks_no_further(rt: HostRuntime) -> Result<(), Fail> {
+        let alloc = rt.alloc();
+        let mut out = Vec::new(alloc);
+        run(alloc, io::repeat(0).take(MOST_INPUT as u64), &mut out)?;
+        run(alloc, io::repeat(0), &mut out)?;
+        assert_eq!(rt; out.as_slice(), "refused 2 0\ntoo large\n".as_bytes());
+        Ok(())
+    }
 }

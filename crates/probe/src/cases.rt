@@ -1,11 +1,23 @@
 // The head of a case.
-ghost use Rattle.std.specs.Prelude.{◌<◌, ◌≤◌};
 
-use crate::lent::{MOST_FIRST, MOST_LENT};
+// A head's length in bytes.
+pub const HEAD: usize = 33;
+
+// The first string has up to 524,288 bytes; the second, the output and the work area up to 131,072 each.
+pub const MOST_FIRST: usize = 524288;
+
+const MOST_LENT: usize = 131072;
+
+// The call that has a third string, the phases; and a way through a file, of so many steps at most.
+pub const PHASED: u8 = 9;
+
+pub const WALK: u8 = 23;
+
+const MOST_STEPS: usize = 64;
 
 #[derive(Clone, Copy)]
 pub struct Case {
-    pub call: usize,
+    pub call: u8,
     pub x: usize,
     pub y: usize,
     pub first: usize,
@@ -14,77 +26,44 @@ pub struct Case {
     pub work: usize,
 }
 
-// A byte as a number.
-fn wide(byte: u8) -> usize
-    ensures { result < 256 }
-{
-    byte as usize
+// A length of four bytes, and what comes after it.
+fn length(head: &[u8]) -> Option<(usize, &[u8])> {
+    let (n, rest) = head.split_first_chunk::<4>()?;
+    Some((u32::from_le_bytes(*n) as usize, rest))
 }
 
-// The byte at a place of the head.
-fn byte(head: &[u8; 33], at: usize) -> usize
-    requires { at < 33 }
-    ensures { result < 256 }
-{
-    wide(head[at])
+// The numbers of a head that came whole.
+fn numbers(head: &[u8]) -> Option<Case> {
+    let (call, rest) = head.split_first()?;
+    let (x, rest) = rest.split_first_chunk::<8>()?;
+    let (y, rest) = rest.split_first_chunk::<8>()?;
+    let (first, rest) = length(rest)?;
+    let (second, rest) = length(rest)?;
+    let (output, rest) = length(rest)?;
+    let (work, _) = length(rest)?;
+    Some(Case {
+        call: *call,
+        x: usize::from_le_bytes(*x),
+        y: usize::from_le_bytes(*y),
+        first,
+        second,
+        output,
+        work,
+    })
 }
 
-// The little-endian numbers of four and of eight bytes.
-fn four(head: &[u8; 33], at: usize) -> usize
-    requires { at ≤ 29 }
-    ensures { result < 4294967296 }
-{
-    byte(head, at)
-        + 256 * byte(head, at + 1)
-        + 65536 * byte(head, at + 2)
-        + 16777216 * byte(head, at + 3)
+// It names a call, 1 to 9 or a walk, and keeps the limits.
+fn allowed(c: &Case) -> bool {
+    let known = matches!(c.call, 1..=PHASED) || (c.call == WALK && c.x <= MOST_STEPS);
+    known
+        && c.first <= MOST_FIRST
+        && c.second <= MOST_LENT
+        && c.output <= MOST_LENT
+        && c.work <= MOST_LENT
 }
 
-fn eight(head: &[u8; 33], at: usize) -> usize
-    requires { at ≤ 25 }
-{
-    four(head, at) + 4294967296 * four(head, at + 4)
-}
-
-pub fn case_of(head: &[u8; 33]) -> Case {
-    Case {
-        call: byte(head, 0),
-        x: eight(head, 1),
-        y: eight(head, 9),
-        first: four(head, 17),
-        second: four(head, 21),
-        output: four(head, 25),
-        work: four(head, 29),
-    }
-}
-
-// 1 to 9, and 23, a way through a file of at most 64 steps.
-fn known(call: usize, x: usize) -> bool {
-    if call == 0 {
-        return false;
-    }
-    if call == 23 {
-        return x <= 64;
-    }
-    call <= 9
-}
-
-// The head came whole, names a call and keeps the limits.
-pub fn allowed(c: Case, got: usize) -> bool {
-    if got < 33 {
-        return false;
-    }
-    if !known(c.call, c.x) {
-        return false;
-    }
-    if MOST_FIRST < c.first {
-        return false;
-    }
-    if MOST_LENT < c.second {
-        return false;
-    }
-    if MOST_LENT < c.output {
-        return false;
-    }
-    c.work <= MOST_LENT
+// The case that a head announces, if the head is whole and allowed.
+pub fn case_of(head: &[u8]) -> Option<Case> {
+    let c = numbers(head)?;
+    if allowed(&c) { Some(c) } else { None }
 }

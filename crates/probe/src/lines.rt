@@ -1,21 +1,56 @@
-// The parts of a line, put one after another into a lent buffer. The variant that the reply names comes last of all: each part hands it on.
-use format::{
-    Fields, FileVariant, HeaderReply, LookupReply, Refusal, Reply, WriteReply, refusal_at,
-};
+// The parts of a line: what a reply tells, and how it is written.
+use format::{Fields, Refusal, refusal_at};
+use std::fmt;
 
-// How much of the buffer is filled, and the variant of the reply that the line tells.
-#[derive(Clone, Copy)]
-pub struct Line {
-    pub filled: usize,
-    pub named: FileVariant,
+// How many bytes are turned into digits at a time.
+const PIECE: usize = 256;
+
+// The digits of some bytes, for which there must be space.
+fn digits<'a>(bytes: &[u8], space: &'a mut [u8]) -> Result<&'a str, fmt::Error> {
+    let used = space.len().min(2 * bytes.len());
+    let text = &mut space[..used];
+    hex::encode_to_slice(bytes, text).map_err(|_| fmt::Error)?;
+    str::from_utf8(text).map_err(|_| fmt::Error)
 }
 
-// A number after a space.
-pub fn next(out: &mut [u8], line: Line, n: usize) -> Line {
-    let a = text::put(out, line.filled, b' ');
-    let filled = text::put_decimal(out, a, n);
-    let named = line.named;
-    Line { filled, named }
+// A refusal's number and its place.
+#[derive(Clone, Copy)]
+pub struct Told(pub Refusal);
+
+impl fmt::Display for Told {
+    fn fmt<W: fmt::Write>(&self, f: &mut fmt::Formatter<W>) -> fmt::Result {
+        let why = self.0;
+        write!(f, "{} {}", why.number, why.place)
+    }
+}
+
+// The four numbers of a file.
+#[derive(Clone, Copy)]
+pub struct Numbers(pub Fields);
+
+impl fmt::Display for Numbers {
+    fn fmt<W: fmt::Write>(&self, f: &mut fmt::Formatter<W>) -> fmt::Result {
+        let of = self.0;
+        write!(f, "{} {} {} {}", of.mode, of.variants, of.samples, of.form)
+    }
+}
+
+// Some bytes in hexadecimal, or `-` where there is none.
+#[derive(Clone, Copy)]
+pub struct Hex<'a>(pub &'a [u8]);
+
+impl fmt::Display for Hex<'_> {
+    // A piece at a time, since a `write!` for each byte takes more than ten times as long.
+    fn fmt<W: fmt::Write>(&self, f: &mut fmt::Formatter<W>) -> fmt::Result {
+        if self.0.is_empty() {
+            return f.write_str("-");
+        }
+        for bytes in self.0.chunks(PIECE) {
+            let mut space = [0u8; 2 * PIECE];
+            f.write_str(digits(bytes, &mut space)?)?;
+        }
+        Ok(())
+    }
 }
 
 // 01, Replies: "An accepted call has refusal 0 and place 0." 02, Ask 2: it names variant 0.
@@ -23,84 +58,18 @@ pub fn none() -> Refusal {
     refusal_at(0, 0)
 }
 
-// A refusal's number and its place.
-pub fn pair(out: &mut [u8], at: usize, why: Refusal) -> Line {
-    let filled = text::put_decimal(out, at, why.number as usize);
-    let named = why.variant;
-    next(out, Line { filled, named }, why.place)
-}
-
-// A buffer's letter and its bytes.
-pub fn buffer(out: &mut [u8], line: Line, letter: u8, bytes: &[u8]) -> Line {
-    let a = text::put(out, line.filled, b' ');
-    let b = text::put(out, a, letter);
-    let c = text::put(out, b, b' ');
-    let filled = text::put_hex(out, c, bytes);
-    let named = line.named;
-    Line { filled, named }
-}
-
-// The variant that a reply names.
-pub fn variant(out: &mut [u8], line: Line) -> usize {
-    let filled = text::put_all(out, line.filled, b" v ");
-    let named = line.named;
-    text::put_decimal(out, filled, named.0)
-}
-
-pub fn end(out: &mut [u8], line: Line) {
-    let a = variant(out, line);
-    let filled = text::put(out, a, b'\n');
-    text::flush(out, filled);
-}
-
-// A reply and the four numbers of a file.
-fn told(out: &mut [u8], why: Refusal, f: Fields) -> Line {
-    let a = pair(out, 0, why);
-    let b = next(out, a, f.mode as usize);
-    let c = next(out, b, f.variants);
-    let d = next(out, c, f.samples);
-    next(out, d, f.form as usize)
-}
-
 // 01, Replies: "0 for each on a refusal".
-pub fn header(out: &mut [u8], r: HeaderReply) -> Line {
-    match r {
-        HeaderReply::Accepted(fields) => told(out, none(), fields),
-        HeaderReply::Refused(why) => {
-            let fields = Fields {
-                mode: 0,
-                variants: 0,
-                samples: 0,
-                form: 0,
-            };
-            told(out, why, fields)
-        }
-    }
-}
+pub const NO_FIELDS: Fields = Fields {
+    mode: 0,
+    variants: 0,
+    samples: 0,
+    form: 0,
+};
 
-pub fn done(out: &mut [u8], at: usize, r: Reply) -> Line {
-    match r {
-        Reply::Accepted => pair(out, at, none()),
-        Reply::Refused(why) => pair(out, at, why),
-    }
-}
-
-// A reply and its one number.
-fn answer(out: &mut [u8], why: Refusal, n: usize) -> Line {
-    let a = pair(out, 0, why);
-    next(out, a, n)
-}
-
-pub fn category(out: &mut [u8], r: LookupReply) -> Line {
-    match r {
-        LookupReply::Category(c) => answer(out, none(), c as usize),
-        LookupReply::Refused(why) => answer(out, why, 0),
-    }
-}
-
-pub fn count(out: &mut [u8], r: WriteReply) -> Line {
-    match r {
-        WriteReply::Count(n) => answer(out, none(), n),
-        WriteReply::Refused(why) => answer(out, why, 0),
+// A reply's refusal, and what comes with it; `otherwise` on a refusal.
+pub fn parts<T: Drop>(reply: Result<T, Refusal>, otherwise: T) -> (Refusal, T) {
+    match reply {
+        Ok(value) => (none(), value),
+        Err(why) => (why, otherwise),
     }
 }

@@ -1,5 +1,6 @@
 -- A file that the whole-file check has accepted, gone through by rows: none is refused.
 -- Assumes nothing.
+use Rattle.std.specs.Prelude.{Ok}
 use mathlib.Core.Path.{◌≡◌, sym, ap, ◌∙◌, subst}
 use Prim.Native.Nat.{ℕ, suc, ◌≤◌, ◌<◌}
 use mathlib.Core.List.{List, []}
@@ -7,7 +8,6 @@ use lib.ListN.{length, length-map}
 use lib.Dec.{lit<}
 use native.Mathlib.Omega.{arith}
 use Rattle.format.specs.declared.Fields.{Fields}
-use Rattle.format.specs.declared.Reply.TheVariants as done
 use Rattle.format.specs.Base.{Bytes, Out, ok}
 use Rattle.format.specs.Limits.{variants_to_a_block}
 use Rattle.format.specs.Body.{body_bytes}
@@ -15,7 +15,7 @@ use Rattle.format.specs.Variant.{file_variant}
 use Rattle.format.specs.Layout.{fields_of, Layout, fixed_of}
 use Rattle.format.specs.Header.{read_layout}
 use Rattle.format.specs.File.{File, layout_of_file, file_bytes, Obeys, read_variant}
-use Rattle.format.specs.Reply.{Verdict, verdict, plain_answer, given, given_or, no_fields, check_out, check_call, read_call}
+use Rattle.format.specs.Reply.{Verdict, verdict, answer, given, given_or, no_fields, check_out, check_call, read_call}
 use Rattle.format.proofs.HeaderLaws.{layout_read_back}
 use Rattle.format.proofs.ReadsLaws.{variant_reads}
 use Rattle.call_rows.specs.declared.Rows.{Rows}
@@ -95,7 +95,7 @@ module _ (file : List ℕ) (f : Fields) (w : Whole file f) (work₀ : List ℕ) 
         moves_on file work₀ w.bytes w.layout w.is_accepted room v rows work output k there
         (omega (arith, ap (λ (z : Fields). z.samples) w.fields_are))
 
-    pub row_accepted : (next_row_call rows file output work).verdict ≡ verdict (plain_answer done.Accepted)
+    pub row_accepted : (next_row_call rows file output work).verdict ≡ verdict (answer {A = Unit {0}} (Ok tt))
     row_accepted = its_step.verdict_is ∙ ap (λ (out : Out (List ℕ)). verdict out) (w.reads v there).1
 
     pub next_before : Before w.layout work₀ (suc v) (next_row_call rows file output work).rows (next_row_call rows file output work).work

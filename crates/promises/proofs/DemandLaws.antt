@@ -1,5 +1,6 @@
 -- What the three demands say of a call, where the laws speak of its parts.
 -- Assumes nothing.
+use Rattle.std.specs.Prelude.{Result, Ok, Err, is_ok, ⊤}
 use mathlib.Core.Path.{◌≡◌, refl, sym, ap, ◌∙◌, subst}
 use Prim.Native.Nat.{ℕ, min}
 use mathlib.Core.Bool.{Bool, true, false, not, ◌||◌}
@@ -9,8 +10,7 @@ use lib.Dec.{eqb, lit<}
 use lib.Seq.{take-append_seam}
 use native.Mathlib.Omega.{arith}
 use Rattle.format.specs.declared.Refusal.{Refusal}
-use Rattle.format.specs.declared.Reply.TheVariants.{Accepted, Refused}
-use Rattle.format.specs.Base.{Bytes, Out, ok, refused, refusal, map_out}
+use Rattle.format.specs.Base.{pick, Bytes, Out, ok, refused, refusal, map_out}
 use Rattle.format.specs.Classes.{writer_numbers, among}
 use Rattle.format.specs.Limits.{variants_to_a_block}
 use Rattle.format.specs.Body.{read_body, body_categories, type_leans}
@@ -28,7 +28,7 @@ use Rattle.format.proofs.FlipLaws.{SameLayout, flip_layout, flip_obeys, pgen_law
 use Rattle.head_places.specs.declared.Place.{Place}
 use Rattle.read_record.specs.Recorded.{RecordLeft, record_left}
 use Rattle.call_rows.specs.declared.Rows.{Rows}
-use Rattle.call_rows.specs.Calls.{next_record, Left, alone, leaning, read_at, stepped, next_row_in, next_row_call}
+use Rattle.call_rows.specs.Calls.{next_record, Left, row_left, past, answered, alone, leaning, read_at, stepped, next_row_in, next_row_call}
 use Rattle.call_rows.specs.Phased.{LeftPhased, phased_stepped, next_phased_row_in, next_phased_row_call}
 use Rattle.call_rows.proofs.RowRefusals.{next_row_numbers, StepNames, next_row_refusals, next_row_names, refused_next_row, refused_next_row_stays}
 use Rattle.call_rows.proofs.PhasedRows.{refused_phases, next_phased_row_refusals, next_phased_row_names, refused_next_phased_row}
@@ -100,18 +100,23 @@ module _ (rows : Rows) (file output work : List ℕ) where
   Plain left = left.verdict.accepted ≡ true → left.verdict.refusal ≡ refusal 0 0
 
   alone_plain : (end : ℕ) (x : RecordLeft) → Plain (alone rows end output x)
-  alone_plain end (record_left Accepted row) = λ e. refl
-  alone_plain end (record_left (Refused why) row) = λ e. never_both e refl
+  alone_plain end (record_left (Ok tt) row) = λ e. refl
+  alone_plain end (record_left (Err why) row) = λ e. never_both e refl
 
   leaning_plain : (end : ℕ) (x : RecordLeft) → Plain (leaning rows end output work x)
-  leaning_plain end (record_left Accepted row) = λ e. refl
-  leaning_plain end (record_left (Refused why) row) = λ e. never_both e refl
+  leaning_plain end (record_left (Ok tt) row) = λ e. refl
+  leaning_plain end (record_left (Err why) row) = λ e. never_both e refl
+
+  anchored_plain : (anchor : Result ⊤ Refusal) (end : ℕ) (left : Left) → Plain left
+      → Plain (pick (is_ok anchor) left (row_left (answered (past rows end anchor) anchor) output work))
+  anchored_plain (Ok tt) end left k = k
+  anchored_plain (Err why) end left k = λ e. never_both e refl
 
   stepped_plain : (m : Out Place) → Plain (stepped rows file output work m)
   stepped_plain (refused why) = λ e. never_both e refl
   stepped_plain (ok p left) =
       by_test Plain (type_leans p.record_type)
-      (λ t. by_test Plain (eqb rows.refusal.number 0) (λ z. leaning_plain p.end (read_at rows file p _)) (λ z e. never_both e refl))
+      (λ t. anchored_plain rows.anchor p.end _ (leaning_plain p.end (read_at rows file p _)))
       (λ t. alone_plain p.end (read_at rows file p work))
 
   step_plain : Plain (next_row_call rows file output work)
@@ -143,7 +148,7 @@ module _ (rows : Rows) (file output work : List ℕ) where
     both_stepped_plain (refused why) = λ e. never_both e refl
     both_stepped_plain (ok p left) =
         by_test (λ (x : LeftPhased). Plain x.row) (type_leans p.record_type)
-        (λ t. by_test Plain (eqb rows.refusal.number 0) (λ z. leaning_plain p.end (read_at rows file p _)) (λ z e. never_both e refl))
+        (λ t. anchored_plain rows.anchor p.end _ (leaning_plain p.end (read_at rows file p _)))
         (λ t. alone_plain p.end (read_at rows file p work))
 
     both_plain : Plain both.row

@@ -2,6 +2,7 @@
 -- together": a variant reads as what `read` gives and what the reading of phases gives, and one step of rows gives both. Above each field stands its plain
 -- sentence; proofs are below. What a call replies and leaves is its definition in format's specs/Reply, of rows in call_rows' specs/Phased.
 -- Assumes nothing.
+use Rattle.std.specs.Prelude.{Err}
 use mathlib.Core.Path.{◌≡◌, refl}
 use mathlib.Core.Logic.{◌↔◌}
 use mathlib.Core.Bool.{true, false}
@@ -10,7 +11,6 @@ use Prim.Native.Nat.{ℕ, min, ◌+◌, ◌≤◌, ◌<◌}
 use lib.ListN.{length, take, drop, get_or, replicate}
 use lib.Dec.{lit<}
 use Rattle.format.specs.declared.FileVariant.{FileVariant}
-use Rattle.format.specs.declared.Reply.TheVariants as reply
 use Rattle.format.specs.Base.{Bytes, ok, refusal, named, map_out}
 use Rattle.format.specs.Limits.{variants_to_a_block}
 use Rattle.format.specs.Classes.{header_numbers, record_numbers, phased_writer_numbers}
@@ -127,7 +127,7 @@ pub record Phased2 : Type 0 where
       → (output phases : List ℕ) → min (length output) (length phases) < state.fields.samples
       → both_called file (either_walked file lent (from state work) v) output phases
       ≡ phased_row_left
-      (answered (either_walked file lent (from state work) v).rows (reply.Refused (named (no_variant state.fields.variants) (refusal 10 0)))) output phases
+      (answered (either_walked file lent (from state work) v).rows (Err (named (no_variant state.fields.variants) (refusal 10 0)))) output phases
       (either_walked file lent (from state work) v).work
   -- and of a file that the whole-file check accepts no step below M is refused, where its own outputs have N bytes too.
   pub no_row_refused : (file work : List ℕ) (state : Rows) → Bytes file → start_rows_call file work ≡ ok state []

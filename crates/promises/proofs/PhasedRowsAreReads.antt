@@ -1,6 +1,7 @@
 -- Started on a file and stepped, the v-th step that gives phases besides categories gives exactly what `read` and the reading of phases of variant v give,
 -- refusals too, whichever of the two calls each step before it was.
 -- Assumes nothing.
+use Rattle.std.specs.Prelude.{Err}
 use mathlib.Core.Path.{◌≡◌, refl, sym, ap, ◌∙◌, subst}
 use Prim.Native.Nat.{ℕ, zero, suc, min, ◌≤◌, ◌<◌}
 use mathlib.Core.Bool.{Bool, true, false}
@@ -9,7 +10,6 @@ use lib.ListN.{length}
 use lib.Dec.{lit<}
 use native.Mathlib.Omega.{arith}
 use Rattle.format.specs.declared.Fields.{Fields}
-use Rattle.format.specs.declared.Reply.TheVariants.{Refused}
 use Rattle.format.specs.declared.Refusal.{Refusal}
 use Rattle.format.specs.Base.{pick, Bytes, ok, refused, refusal, named, refuse_of}
 use Rattle.format.specs.Variant.{no_variant}
@@ -117,7 +117,7 @@ module _ (file work : List ℕ) (rows : Rows) (y : Bytes file) (e : start_rows_c
   no_room = named (no_variant rows.fields.variants) (refusal 10 0)
 
   pub short_phased_row : (output phases : List ℕ) → min (length output) (length phases) < rows.fields.samples
-      → both_called file reached output phases ≡ phased_row_left (answered reached.rows (Refused no_room)) output phases reached.work
+      → both_called file reached output phases ≡ phased_row_left (answered reached.rows (Err no_room)) output phases reached.work
   unfolding next_phased_row_call next_phased_row_in
   short_phased_row output phases h =
       let s : FromStart file work rows = from_start file work rows y e in

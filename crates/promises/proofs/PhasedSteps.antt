@@ -32,8 +32,8 @@ use Rattle.call_rows.specs.declared.Rows.{Rows}
 use Rattle.call_rows.specs.Calls.{next_record}
 use Rattle.call_rows.specs.Phased.{LeftPhased, next_phased_row_call}
 use Rattle.call_rows.proofs.PhasedRows.{phased_row_is_row, phases_of_body, refused_phases}
-use Rattle.promises.proofs.StepIsRead.{state, Told, was_accepted, was_refused, told_known, Before, follows, found_there}
-use Rattle.promises.proofs.RowsAreReads.{At, called, from, AsRead, Reached, within, beyond}
+use Rattle.promises.proofs.StepIsRead.{Told, was_accepted, was_refused, told_known, Before, follows, found_there}
+use Rattle.promises.proofs.RowsAreReads.{At, called, AsRead, Reached, within, beyond}
 
 abbrev K : ℕ
 K = variants_to_a_block
@@ -101,12 +101,12 @@ module _ (file work₀ : List ℕ) (y : Bytes file) (l : Layout) (a : read_layou
     unfolding variant_as over_as
     over_work row rest e = go (variant_leans l here) refl e
       where
-        told_over : Told N k.why work (read_over K l [] (anchor K l.types here))
+        told_over : Told N k.reply work (read_over K l [] (anchor K l.types here))
             → bind (read_over K l [] (anchor K l.types here)) (λ lent left. over_as body_phases K l lent here) ≡ ok row rest
             → map_out (body_phases N (take N work)) (record_over K l v (take N work)) ≡ ok row rest
         told_over (was_accepted left z q) e = sym (ap (λ (m : Out (List ℕ)). bind m (λ lent left. over_as body_phases K l lent here)) q) ∙ e
-        told_over (was_refused c q) e =
-            let never : ◌≡◌ {A = Out (List ℕ)} (refused k.why) (ok row rest)
+        told_over (was_refused why was c q) e =
+            let never : ◌≡◌ {A = Out (List ℕ)} (refused why) (ok row rest)
             = sym (ap (λ (m : Out (List ℕ)). bind m (λ lent left. over_as body_phases K l lent here)) q) ∙ e in
             absurd (let z : ◌≡◌ {A = ℕ} 0 1 = cc in omega arith)
 
@@ -122,8 +122,8 @@ module _ (file work₀ : List ℕ) (y : Bytes file) (l : Layout) (a : read_layou
       found_here : next_record rows file file (min (length output) (length phases)) (length work) ≡ ok (place_in l here) []
       found_here =
           rw k.state_is
-          (found_there file file y l stored v b k.why (min (length output) (length phases)) (length work) (omega arith) (omega (arith, k.holds))
-          (follows file file y l stored v b k.why (λ t. told_known (k.told b t))))
+          (found_there file file y l stored v b k.reply (min (length output) (length phases)) (length work) (omega arith) (omega (arith, k.holds))
+          (follows file file y l stored v b k.reply (λ t. told_known (k.told b t))))
 
       -- its phases are those that the variant reads as
       filled : (row rest : List ℕ) → variant_as body_phases K l here ≡ ok row rest

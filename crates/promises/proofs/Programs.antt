@@ -7,7 +7,7 @@ use contract.Lifetimes.{Lfts}
 use borrow.Fn.World.{ArgsD, ResD}
 use denote.Triple.Clauses.{AtExit}
 use Rattle.format.specs.Limits.{variants_to_a_block}
-use Rattle.format.specs.Reply.{header_left, header_call, check_left, check_call, read_left, read_call, phases_call, lookup_left, lookup_call}
+use Rattle.format.specs.Reply.{answer, header_left, header_call, check_left, check_call, read_left, read_call, phases_call, lookup_left, lookup_call}
 use Rattle.format.specs.Reply.{view_left, part_of_file, view_call, write_left, write_call, write_phased_call, flip_left, flip_call}
 use Rattle.head_check.proofs as head
 use Rattle.head_check.specs.contracts as head_lent
@@ -17,7 +17,7 @@ use Rattle.call_write.proofs as writing
 use Rattle.call_write.specs.contracts as writing_lent
 use Rattle.call_flip.proofs as flipping
 use Rattle.call_flip.specs.contracts as flipping_lent
-use Rattle.call_rows.specs.Calls.{rows_answer, start_rows_call, row_left, next_row_call}
+use Rattle.call_rows.specs.Calls.{start_rows_call, row_left, next_row_call}
 use Rattle.call_rows.specs.Phased.{phased_row_left, next_phased_row_call}
 use Rattle.call_rows.proofs as stepping
 use Rattle.call_rows.specs.contracts as stepping_lent
@@ -89,7 +89,7 @@ pub record Says : Type 0 where
       → flip_left r left.0.now left.1.1.0.now ≡ flip_call variants_to_a_block lent.0.now lent.1.0.now lent.1.1.0.now
   pub start_rows : (κs : Lfts 2) (lent : ArgsD stepping_lent.start_rows.signature κs) (r : ResD stepping_lent.start_rows.signature κs)
       (left : AtExit stepping_lent.start_rows.ended κs) → stepping.start_rows.Reads.Post κs lent r left
-      → rows_answer r ≡ start_rows_call lent.0.now lent.1.0.now
+      → answer r ≡ start_rows_call lent.0.now lent.1.0.now
   pub next_row : (κs : Lfts 3) (lent : ArgsD stepping_lent.next_row.signature κs) (r : ResD stepping_lent.next_row.signature κs)
       (left : AtExit stepping_lent.next_row.ended κs) → stepping.next_row.Reads.Post κs lent r left
       → row_left r left.1.1.0.now left.1.1.1.0.now ≡ next_row_call lent.0 lent.1.0.now lent.1.1.0.now lent.1.1.1.0.now

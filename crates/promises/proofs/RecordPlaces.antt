@@ -16,7 +16,9 @@ use Rattle.format.specs.Numbers.{numbers_bytes, read_numbers, read_bytes}
 use Rattle.format.specs.Packed.{Bits, one, two, more, packed, read_packed}
 use Rattle.format.specs.Difflist.{Entry, Rule, groups, number_width, Parts, read_entry, read_entries, read_first, read_parts, read_list}
 use Rattle.format.specs.PairCode.{Coded, coded, not_coded, code_numbered}
-use Rattle.format.specs.Track.{Kind, array, paired, against_anchor, against_category, no_kind, kind, Track, plain, one_bit, leaning, sparse, off_pair}
+use Rattle.format.specs.declared.Kind.{Kind}
+use Rattle.format.specs.declared.Kind.TheVariants.{Array, Paired, AgainstAnchor, AgainstCategory, NoKind}
+use Rattle.format.specs.Track.{kind, Track, plain, one_bit, leaning, sparse, off_pair}
 use Rattle.format.specs.Track.{off_category, off_anchor, rule, bit_set, as_read, track_bytes, read_pair_code, read_listed, read_kind, read_track}
 use Rattle.format.specs.Phase.{phased, phases_bytes, first_count, presence, ones, read_phase_track, read_phases}
 use Rattle.format.specs.Body.{kind_of, type_phased, track_heterozygous, Body, ended, read_body}
@@ -213,8 +215,8 @@ module _ (lo end : ℕ) where
 
   kind_places : (N : ℕ) (anchor : List ℕ) (k : Kind) (bs : List ℕ) → Bytes bs → lo + length bs ≤ end → RefusalIs P (read_kind end N anchor k bs)
   unfolding read_kind
-  kind_places N anchor array bs y l = is_map P plain (read_packed end two N bs) (array_places two N bs l)
-  kind_places N anchor paired bs y l =
+  kind_places N anchor Array bs y l = is_map P plain (read_packed end two N bs) (array_places two N bs l)
+  kind_places N anchor Paired bs y l =
       is_bind (IsPairCode bs) P (read_pair_code end bs) _ (pair_code_as_written end bs) (pair_code_places bs l) (λ c left₁ i.
       let y₁ : Bytes left₁ = (rw i at y).1 in
       let s₁ : length bs ≡ suc (length left₁) = ap length i in
@@ -222,9 +224,9 @@ module _ (lo end : ℕ) where
       (λ bits left₂ g.
       listed_places (one_bit c (map bit_set bits)) N (off_pair c) left₂ (left_bytes left₁ (packed one bits) left₂ g.written y₁)
       (omega (arith, left_shorter left₁ (packed one bits) left₂ g.written))))
-  kind_places N anchor (against_anchor inverted) bs y l = listed_places (leaning inverted) N (off_anchor anchor) bs y l
-  kind_places N anchor (against_category category) bs y l = listed_places (sparse category) N (off_category category) bs y l
-  kind_places N anchor no_kind bs y l = none 8 0 refl
+  kind_places N anchor (AgainstAnchor inverted) bs y l = listed_places (leaning inverted) N (off_anchor anchor) bs y l
+  kind_places N anchor (AgainstCategory category) bs y l = listed_places (sparse category) N (off_category category) bs y l
+  kind_places N anchor NoKind bs y l = none 8 0 refl
 
   -- the phase track: its first part, then its phase bits
   phase_track_places : (H : ℕ) (bs : List ℕ) → Bytes bs → lo + length bs ≤ end → RefusalIs P (read_phase_track end H bs)

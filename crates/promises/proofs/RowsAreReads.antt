@@ -1,5 +1,6 @@
 -- Started on a file and stepped, the v-th call gives exactly what `read` of variant v gives, refusals too.
 -- Assumes nothing.
+use Rattle.std.specs.Prelude.{Ok, Err}
 use mathlib.Core.Path.{◌≡◌, refl, sym, ap, ◌∙◌, subst}
 use Prim.Native.Nat.{ℕ, zero, suc, ◌≤◌, ◌<◌}
 use native.Mathlib.Nat.{add-zero}
@@ -9,7 +10,6 @@ use lib.Dec.{lit<}
 use native.Mathlib.Omega.{arith}
 use borrow.Author.Tests.{le-leb, lt-leb, lt-ltb, le-ltb}
 use Rattle.format.specs.declared.Refusal.{Refusal}
-use Rattle.format.specs.declared.Reply.TheVariants.{Refused}
 use Rattle.format.specs.Base.{Bytes, Out, ok, refused, refusal, named, refuse_of}
 use Rattle.format.specs.Limits.{variants_to_a_block}
 use Rattle.format.specs.Variant.{file_variant, no_variant}
@@ -81,9 +81,9 @@ module _ (file work₀ : List ℕ) (y : Bytes file) (l : Layout) (a : read_layou
   pub begins : Before l work₀ 0 first work₀
   unfolding record_start sum
   begins = record {
-    why = refusal 0 0;
+    reply = Ok tt;
     state_is =
-        ap (λ (start : ℕ). record { fields = fields_of (fixed_of l); variant = file_variant 0; start = start; refusal = refusal 0 0 })
+        ap (λ (start : ℕ). record { fields = fields_of (fixed_of l); variant = file_variant 0; start = start; anchor = Ok tt })
         (sym (add-zero (first_record K (fixed_of l))));
     reached = omega arith;
     holds = refl;
@@ -100,18 +100,18 @@ module _ (file work₀ : List ℕ) (y : Bytes file) (l : Layout) (a : read_layou
 
   module _ (v : ℕ) (rows : Rows) (work output : List ℕ) (k : Before l work₀ v rows work) where
     abbrev st : Rows
-    st = state l v k.why
+    st = state l v k.reply
 
     -- by the state alone
     stays_at : (why : Refusal) → refused why ≡ state_checked st (length output) (length work)
-        → row_left (answered rows (Refused why)) output work ≡ next_row_call rows file output work
+        → row_left (answered rows (Err why)) output work ≡ next_row_call rows file output work
     unfolding next_row_call
     stays_at why e = rw k.state_is (not_found st file file output work why (not_next st file file (length output) (length work) why e))
 
-    too_short : length output < N → row_left (answered rows (Refused (none_named 10))) output work ≡ next_row_call rows file output work
+    too_short : length output < N → row_left (answered rows (Err (none_named 10))) output work ≡ next_row_call rows file output work
     too_short h = stays_at (none_named 10) (short_output st (length output) (length work) obeys.fixed.variants obeys.fixed.samples h)
 
-    none_left : N ≤ length output → M ≤ v → row_left (answered rows (Refused (none_named 11))) output work ≡ next_row_call rows file output work
+    none_left : N ≤ length output → M ≤ v → row_left (answered rows (Err (none_named 11))) output work ≡ next_row_call rows file output work
     none_left o h =
         stays_at (none_named 11)
         (not_below st (length output) (length work) obeys.fixed.variants obeys.fixed.samples o (omega (arith, k.holds)) h)
@@ -169,10 +169,10 @@ module _ (file work₀ : List ℕ) (y : Bytes file) (l : Layout) (a : read_layou
       on v (walked file outputs (from first work₀) v) (outputs v) (each v (omega arith)) (reach outputs v (λ u h. each u (omega arith)))
 
   -- where the read is refused, and the call refuses alike and leaves the state
-  refused_alike : (v : ℕ) (at : At) (output : List ℕ) (why : Refusal) → row_left (answered at.rows (Refused why)) output at.work ≡ called file at output
+  refused_alike : (v : ℕ) (at : At) (output : List ℕ) (why : Refusal) → row_left (answered at.rows (Err why)) output at.work ≡ called file at output
       → read_out K file (file_variant v) output work₀ ≡ refused why → AsRead file work₀ v output (called file at output)
   refused_alike v at output why e q =
-      subst (AsRead file work₀ v output) e (as_read v output (refused why) q (row_left (answered at.rows (Refused why)) output at.work) refl refl)
+      subst (AsRead file work₀ v output) e (as_read v output (refused why) q (row_left (answered at.rows (Err why)) output at.work) refl refl)
 
   gives : (v : ℕ) (at : At) (output : List ℕ) → Reached v at → AsRead file work₀ v output (called file at output)
   gives v at output (within k) =

@@ -1,26 +1,25 @@
 -- A layout that an index and its data stand for, stepped through: what each step gives is what a read of its variant gives.
 -- Assumes nothing.
+use Rattle.std.specs.Prelude.{Result, Ok, Err, is_ok, ⊤}
 use mathlib.Core.Path.{◌≡◌, refl, sym, ap, ◌∙◌, subst}
 use Prim.Native.Nat.{ℕ, suc, ◌+◌, ◌≤◌, ◌<◌}
 use mathlib.Core.Bool.{Bool, true, false, not, ◌&&◌, ◌||◌}
-use mathlib.Core.List.{List, [], ◌∷◌, ◌++◌}
+use mathlib.Core.List.{List, [], ◌++◌}
 use lib.ListN.{length, take, drop, get_or, replicate, length-append, length-drop, length-replicate}
 use lib.Seq.{take_at, drop_at, length-take-le}
 use lib.Dec.{lit<}
 use native.Mathlib.Omega.{arith}
-use borrow.Author.Tests.{eq-eqb, ne_eqb}
 use Rattle.format.specs.declared.FileVariant.{FileVariant}
 use Rattle.format.specs.declared.Refusal.{Refusal}
-use Rattle.format.specs.Base.{pick, Bytes, Out, ok, refused, refusal, bind, map_out}
+use Rattle.format.specs.Base.{pick, Bytes, Out, ok, refused, bind, map_out}
 use Rattle.format.specs.Limits.{variants_to_a_block}
-use Rattle.format.specs.Classes.{record_numbers, among}
 use Rattle.format.specs.Body.{Body, type_leans, body_categories, read_body}
 use Rattle.format.specs.Variant.{file_variant, next_variant, in_block, anchor}
 use Rattle.format.specs.Layout.{fields_of, Layout, LayoutObeys, fixed_of, record_start, type_allowed}
 use Rattle.format.specs.File.{type_of, variant_leans, read_over, read_variant, over_as, variant_as}
-use Rattle.format.specs.Reply.{verdict, given}
+use Rattle.format.specs.Reply.{verdict, answer, given}
 use Rattle.format.proofs.Rules.{by_test}
-use Rattle.format.proofs.Refuses.{Refuses, RecordNumber, class_holds, not_none}
+use Rattle.format.proofs.Refuses.{Refuses, RecordNumber}
 use Rattle.format.proofs.AnchorLaws.{type_allowed_in, anchor_after_leaning, anchor_after_standing}
 use Rattle.format.proofs.FileLaws.{one_type_each}
 use Rattle.format.proofs.CallRefusals.{variant_refusals}
@@ -46,29 +45,29 @@ abbrev K : ℕ
 K = variants_to_a_block
 
 -- the state before variant v of a layout
-abbrev pub state : Layout → ℕ → Refusal → Rows
-state l v why = record { fields = fields_of (fixed_of l); variant = file_variant v; start = record_start K l (file_variant v); refusal = why }
+abbrev pub state : Layout → ℕ → Result ⊤ Refusal → Rows
+state l v reply = record { fields = fields_of (fixed_of l); variant = file_variant v; start = record_start K l (file_variant v); anchor = reply }
 
 -- how an anchor reads is what the state and the work area tell
-pub data Told (N : ℕ) (why : Refusal) (work : List ℕ) (m : Out (List ℕ)) : Type 0 where
-  was_accepted : (left : List ℕ) → why.number ≡ 0 → m ≡ ok (take N work) left → Told N why work m
-  was_refused : RecordNumber why.number → m ≡ refused why → Told N why work m
+pub data Told (N : ℕ) (reply : Result ⊤ Refusal) (work : List ℕ) (m : Out (List ℕ)) : Type 0 where
+  was_accepted : (left : List ℕ) → reply ≡ Ok tt → m ≡ ok (take N work) left → Told N reply work m
+  was_refused : (why : Refusal) → reply ≡ Err why → RecordNumber why.number → m ≡ refused why → Told N reply work m
 
 -- so the state tells of an anchor
-pub told_known : {N : ℕ} {why : Refusal} {work : List ℕ} {m : Out (List ℕ)} → Told N why work m → anchor_told why ≡ true
+pub told_known : {N : ℕ} {reply : Result ⊤ Refusal} {work : List ℕ} {m : Out (List ℕ)} → Told N reply work m → anchor_told reply ≡ true
 unfolding anchor_told
-told_known {why = why} (was_accepted left z e) = rw (eq-eqb why.number 0 z) refl
-told_known {why = why} (was_refused c e) = class_holds (among (0 ∷ record_numbers)) record_numbers why.number refl c
+told_known (was_accepted left z e) = rw z refl
+told_known (was_refused why q c e) = rw q c
 
 -- the state and the work area stand before variant v; work₀ is the work area at the start
 pub record Before (l : Layout) (work₀ : List ℕ) (v : ℕ) (rows : Rows) (work : List ℕ) : Type 0 where
-  pub why : Refusal
-  pub state_is : rows ≡ state l v why
+  pub reply : Result ⊤ Refusal
+  pub state_is : rows ≡ state l v reply
   pub reached : v ≤ length l.bodies
   pub holds : length work ≡ length work₀
   pub rest_is : drop l.samples work ≡ drop l.samples work₀
   pub told : v < length l.bodies → variant_leans l (file_variant v) ≡ true
-      → Told l.samples why work (read_over K l [] (anchor K l.types (file_variant v)))
+      → Told l.samples reply work (read_over K l [] (anchor K l.types (file_variant v)))
 
 -- what a step leaves is what the read m gives, and the next variant's turn has come
 pub record Stepped (l : Layout) (work₀ : List ℕ) (v : ℕ) (output : List ℕ) (m : Out (List ℕ)) (left : Left) : Type 0 where
@@ -127,15 +126,15 @@ module _ (index held : List ℕ) (y : Bytes held) (l : Layout) (a : Stored K ind
       ap (type_allowed (in_block K here)) same_type
       ∙ type_allowed_in K l.types (lit< tt) obeys.types here (omega (arith, one_type_each K l obeys))
 
-  module _ (why : Refusal) where
+  module _ (reply : Result ⊤ Refusal) where
     abbrev st : Rows
-    st = state l v why
+    st = state l v reply
 
-    pub follows : (variant_leans l here ≡ true → anchor_told why ≡ true) → type_follows st type ≡ true
+    pub follows : (variant_leans l here ≡ true → anchor_told reply ≡ true) → type_follows st type ≡ true
     unfolding type_follows
     follows k =
-        pair (type_allowed (in_block K here) type) (not (type_leans type) || anchor_told why) type_is_allowed
-        (only_where (type_leans type) (anchor_told why) (λ t. k (ap type_leans (sym same_type) ∙ t)))
+        pair (type_allowed (in_block K here) type) (not (type_leans type) || anchor_told reply) type_is_allowed
+        (only_where (type_leans type) (anchor_told reply) (λ t. k (ap type_leans (sym same_type) ∙ t)))
 
     pub found_there : (output work : ℕ) → N ≤ output → N ≤ work → type_follows st type ≡ true → next_record st index held output work ≡ ok at []
     found_there output work o w t =
@@ -198,7 +197,7 @@ module _ (index held : List ℕ) (y : Bytes held) (l : Layout) (a : Stored K ind
               verdict_is = refl;
               output_is = ap (λ (z : List ℕ). z ++ drop N output) front;
               next = record {
-                why = refusal 0 0;
+                reply = Ok tt;
                 state_is = refl;
                 reached = omega arith;
                 holds = kept.0 ∙ h;
@@ -212,12 +211,12 @@ module _ (index held : List ℕ) (y : Bytes held) (l : Layout) (a : Stored K ind
               verdict_is = refl;
               output_is = refl;
               next = record {
-                why = other;
+                reply = Err other;
                 state_is = refl;
                 reached = omega arith;
                 holds = kept.0 ∙ h;
                 rest_is = kept.1 ∙ rest;
-                told = λ m u. was_refused k (lent m u ∙ e);
+                told = λ m u. was_refused other refl k (lent m u ∙ e);
               };
             }
 
@@ -230,21 +229,21 @@ module _ (index held : List ℕ) (y : Bytes held) (l : Layout) (a : Stored K ind
 
       -- ---- one that leans
 
-      module _ (t : variant_leans l here ≡ true) (k : Told N why work (read_over K l [] (anchor K l.types here))) where
+      module _ (t : variant_leans l here ≡ true) (k : Told N reply work (read_over K l [] (anchor K l.types here))) where
         leans_is : read_variant K l here ≡ bind (read_over K l [] (anchor K l.types here)) (λ lent left. read_over K l lent here)
         unfolding variant_as
         leans_is = rw t refl
 
         -- the same anchor stays for the next
-        goes_on : Before l work₀ (suc v) (state l (suc v) why) work
+        goes_on : Before l work₀ (suc v) (state l (suc v) reply) work
         goes_on = record {
-          why = why;
+          reply = reply;
           state_is = refl;
           reached = omega arith;
           holds = h;
           rest_is = rest;
           told = λ m u.
-              subst (λ (x : FileVariant). Told N why work (read_over K l [] x))
+              subst (λ (x : FileVariant). Told N reply work (read_over K l [] x))
               (sym (anchor_after_leaning K l.types (lit< tt) obeys.types here (more_types m) u t)) k;
         }
 
@@ -266,15 +265,14 @@ module _ (index held : List ℕ) (y : Bytes held) (l : Layout) (a : Stored K ind
         over : Stepped l work₀ v output (read_variant K l here) (over_anchor st held at output work)
         over = go k
           where
-            go : Told N why work (read_over K l [] (anchor K l.types here))
+            go : Told N reply work (read_over K l [] (anchor K l.types here))
                 → Stepped l work₀ v output (read_variant K l here) (over_anchor st held at output work)
             go (was_accepted left z e) =
-                rw (leans_is, e, eq-eqb why.number 0 z, over_copy) (leaning_step (read_over K l (take N work) here))
-            go (was_refused c e) =
-                let z : why.number ≡ 0 → ⊥ = λ z. not_none record_numbers refl (rw z at c) in
-                rw (leans_is, e, ne_eqb why.number 0 z) (record { verdict_is = refl; output_is = refl; next = goes_on })
+                rw (leans_is, e, ap is_ok z, over_copy) (leaning_step (read_over K l (take N work) here))
+            go (was_refused why q c e) =
+                rw (leans_is, e, ap is_ok q) (record { verdict_is = ap (λ (r : Result ⊤ Refusal). verdict (answer r)) q; output_is = refl; next = goes_on })
 
-      step : (variant_leans l here ≡ true → Told N why work (read_over K l [] (anchor K l.types here)))
+      step : (variant_leans l here ≡ true → Told N reply work (read_over K l [] (anchor K l.types here)))
           → Stepped l work₀ v output (read_variant K l here) (next_row_in st index held output work)
       step k =
           rw (left_is (follows (λ t. told_known (k t))))
@@ -286,4 +284,4 @@ pub steps : (index held : List ℕ) → Bytes held → (l : Layout) → Stored K
     → Stepped l work₀ v output (read_variant K l (file_variant v)) (next_row_in rows index held output work)
 steps index held y l a work₀ w₀ v rows work output k b o =
     rw k.state_is
-    (step index held y l a v b k.why work₀ work output k.holds k.rest_is o (omega (arith, k.holds)) (k.told b))
+    (step index held y l a v b k.reply work₀ work output k.holds k.rest_is o (omega (arith, k.holds)) (k.told b))

@@ -13,7 +13,9 @@ use Rattle.format.specs.Base.{pick, Below, Out, ok, refused, bind, need}
 use Rattle.format.specs.Limits.{most_samples}
 use Rattle.format.specs.Classes.{writer_numbers, among}
 use Rattle.format.specs.PairCode.{code_1, code_2, code_3, code_5, code_6, code_9, Coded, coded, not_coded, code_numbered}
-use Rattle.format.specs.Track.{Kind, array, paired, against_anchor, against_category, no_kind, kind, leans, Track, track_kind, Fits, track_bytes}
+use Rattle.format.specs.declared.Kind.{Kind}
+use Rattle.format.specs.declared.Kind.TheVariants.{Array, Paired, AgainstAnchor, AgainstCategory, NoKind}
+use Rattle.format.specs.Track.{kind, leans, Track, track_kind, Fits, track_bytes}
 use Rattle.format.specs.Track.{track_categories}
 use Rattle.format.specs.Layout.{from_1_to}
 use Rattle.format.specs.Writer.{pair_track, kind_track, track_for, need_categories, with_track, write_record, track_code, cleared}
@@ -72,15 +74,15 @@ categories_exactly i (c ∷ categories) next a left = (
 code_kept : (k : Kind) (code : ℕ) (anchor categories : List ℕ)
     → Holds (λ (t : Track) (left : List ℕ). track_code t ≡ code) (kind_track k code anchor categories)
 unfolding kind_track
-code_kept array code anchor categories = by_need _ (eqb code 0) 19 0 _ (λ t. sym (eqb-true code 0 t))
-code_kept paired code anchor categories = go (code_numbered code) (code_as_written code)
+code_kept Array code anchor categories = by_need _ (eqb code 0) 19 0 _ (λ t. sym (eqb-true code 0 t))
+code_kept Paired code anchor categories = go (code_numbered code) (code_as_written code)
   where
     go : (found : Coded) → IsCode code found → Holds (λ (t : Track) (left : List ℕ). track_code t ≡ code) (pair_track categories found)
     go (coded c) e = sym e
     go not_coded e = tt
-code_kept (against_anchor inverted) code anchor categories = by_need _ (eqb code 0) 19 0 _ (λ t. sym (eqb-true code 0 t))
-code_kept (against_category base) code anchor categories = by_need _ (eqb code 0) 19 0 _ (λ t. sym (eqb-true code 0 t))
-code_kept no_kind code anchor categories = tt
+code_kept (AgainstAnchor inverted) code anchor categories = by_need _ (eqb code 0) 19 0 _ (λ t. sym (eqb-true code 0 t))
+code_kept (AgainstCategory base) code anchor categories = by_need _ (eqb code 0) 19 0 _ (λ t. sym (eqb-true code 0 t))
+code_kept NoKind code anchor categories = tt
 
 -- 19 is given for the others, kind by kind and code by code
 zero_code : {A : Type 0} (b : Bool) (a : A) → is_accepted (need b 19 0 (ok a [])) ≡ b

@@ -13,7 +13,9 @@ use Rattle.format.specs.Base.{pick, Below, Out, ok, refused, refusal}
 use Rattle.format.specs.Limits.{most_samples}
 use Rattle.format.specs.Classes.{among}
 use Rattle.format.specs.PairCode.{Coded, coded, not_coded, code_numbered}
-use Rattle.format.specs.Track.{Kind, array, paired, against_anchor, against_category, no_kind, kind, leans, Track, track_bytes}
+use Rattle.format.specs.declared.Kind.{Kind}
+use Rattle.format.specs.declared.Kind.TheVariants.{Array, Paired, AgainstAnchor, AgainstCategory, NoKind}
+use Rattle.format.specs.Track.{kind, leans, Track, track_bytes}
 use Rattle.format.specs.Body.{body_bytes}
 use Rattle.format.specs.Layout.{from_1_to}
 use Rattle.format.specs.Writer.{pair_track, kind_track, track_for, need_categories, with_track, within, write_record, phase_allowed, need_phases}
@@ -97,15 +99,15 @@ module _ (categories : List ℕ) (number code : ℕ) (anchor : List ℕ) (P : Re
     (zeroth : (n : ℕ) → among (4 ∷ 10 ∷ 19 ∷ []) n ≡ true → P (refusal n 0)) where
   track_places : (k : Kind) → RefusalIs P (kind_track k code anchor categories)
   unfolding kind_track
-  track_places array = is_need P (eqb code 0) 19 0 _ (λ t. zeroth 19 refl) (λ t. tt)
-  track_places paired = go (code_numbered code)
+  track_places Array = is_need P (eqb code 0) 19 0 _ (λ t. zeroth 19 refl) (λ t. tt)
+  track_places Paired = go (code_numbered code)
     where
       go : (found : Coded) → RefusalIs P (pair_track categories found)
       go (coded c) = tt
       go not_coded = zeroth 19 refl
-  track_places (against_anchor inverted) = is_need P (eqb code 0) 19 0 _ (λ t. zeroth 19 refl) (λ t. tt)
-  track_places (against_category base) = is_need P (eqb code 0) 19 0 _ (λ t. zeroth 19 refl) (λ t. tt)
-  track_places no_kind = zeroth 19 refl
+  track_places (AgainstAnchor inverted) = is_need P (eqb code 0) 19 0 _ (λ t. zeroth 19 refl) (λ t. tt)
+  track_places (AgainstCategory base) = is_need P (eqb code 0) 19 0 _ (λ t. zeroth 19 refl) (λ t. tt)
+  track_places NoKind = zeroth 19 refl
 
   with_track_places : (next : Track → Out (List ℕ)) → ((track : Track) → RefusalIs P (next track))
       → RefusalIs P (with_track categories number code anchor next)

@@ -1,5 +1,6 @@
 -- A list that is only counted is answered as the format's list is put into a row, and so by the count of what that makes.
 -- Assumes nothing.
+use Rattle.std.specs.Prelude.{Result, Ok, Err}
 use mathlib.Core.Path.{◌≡◌, refl, sym, ap, ◌∙◌}
 use Prim.Native.Nat.{ℕ, ◌≤◌}
 use native.Mathlib.Omega.{arith}
@@ -18,11 +19,6 @@ use Rattle.read_list.specs.Listed.{may_hold}
 use Rattle.read_list.specs.declared.ListRule.{ListRule}
 use Rattle.read_list.specs.declared.ListRule.TheVariants.{OffRow}
 use Rattle.read_list.specs.declared.State.{State}
-use Rattle.read_list.specs.declared.CountStep.{CountStep}
-use Rattle.read_list.specs.declared.CountStep.TheVariants as count
-use Rattle.read_list.specs.declared.PartsStep.{PartsStep}
-use Rattle.read_list.specs.declared.PartsStep.TheVariants as parts
-use Rattle.read_list.specs.declared.ListStep.TheVariants as list
 use Rattle.read_list.proofs.NumberLaws.{Known}
 use Rattle.read_list.proofs.WholeLaws.{put_not, put_none, put_unfit, put_fits, count_inside, count_few, count_some, laid_room}
 use Rattle.read_list.proofs.EntriesAgree.{applied, cleared}
@@ -31,15 +27,13 @@ use Rattle.read_list.proofs.Agrees.{get_d_any}
 use Rattle.read_calls.specs.Bases.{base_row}
 use Rattle.read_calls.specs.Counted.{count_replied, counted, counted_left}
 use Rattle.read_calls.specs.declared.StoredBase.TheVariants.{Row}
-use Rattle.read_calls.specs.declared.CallsStep.{CallsStep}
-use Rattle.read_calls.specs.declared.CallsStep.TheVariants.{Counted, Refused}
 use Rattle.read_calls.proofs.BaseLaws.{base_long, row_is}
 
 -- what is cleared after a refusal, and what is applied, are counted alike
 cleared_count : (n : ℕ) (o : ListLeft) → counted_left (cleared n o) ≡ counted_left o
 unfolding counted_left
-cleared_count n (list_left (list.Listed c) row) = refl
-cleared_count n (list_left (list.Refused why) row) = refl
+cleared_count n (list_left (Ok c) row) = refl
+cleared_count n (list_left (Err why) row) = refl
 
 applied_count : (end n : ℕ) (row : List ℕ) (m : Out (List Entry)) → counted_left (applied end n row m) ≡ count_replied end row m
 unfolding counted_left
@@ -48,7 +42,7 @@ applied_count end n row (refused why) = refl
 
 -- `against` is what the list is against: n samples, or more
 module _ (l : List ℕ) (at n : ℕ) (held : ListRule) (against : List ℕ) (long : n ≤ length against) (known : Known l) (a : at ≤ length l) where
-  abbrev whole : CallsStep
+  abbrev whole : Result (Cursor × ℕ) Refusal
   whole = counted held against n l at
 
   -- the list by position, put into a row that is what the list is against
@@ -61,22 +55,22 @@ module _ (l : List ℕ) (at n : ℕ) (held : ListRule) (against : List ℕ) (lon
       ∙ applied_count (length l) n against (read_list (rule n (may_hold held against)) (number_width n) (length l) (drop at l))
 
   -- the ways out of a list that is counted: r is what `read_count` gave, d what `lay_parts` did
-  module _ (r : CountStep) (e : r ≡ count_of (varint_at l at) n at) where
-    pub count_not : (why : Refusal) → r ≡ count.Refused why → Refused why ≡ whole
+  module _ (r : Result (ℕ × Cursor) Refusal) (e : r ≡ count_of (varint_at l at) n at) where
+    pub count_not : (why : Refusal) → r ≡ Err why → Err why ≡ whole
     unfolding counted_left
     count_not why q = ap counted_left (put_not l at n held against r e why q) ∙ count_agrees
 
-    module _ (m : ℕ) (c : Cursor) (q : r ≡ count.Of m c) where
-      pub count_none : m ≡ 0 → (H : ℕ) → H ≡ heterozygous_count against → Counted c H ≡ whole
+    module _ (m : ℕ) (c : Cursor) (q : r ≡ Ok (m, c)) where
+      pub count_none : m ≡ 0 → (H : ℕ) → H ≡ heterozygous_count against → Ok (c, H) ≡ whole
       unfolding counted_left
       count_none z H g = rw g (ap counted_left (put_none l at n held against r e m c q z) ∙ count_agrees)
 
-      module _ (z : m ≡ 0 → ⊥) (d : PartsStep) (f : d ≡ lay_out l n m c.at) where
-        pub count_unfit : (why : Refusal) → d ≡ parts.Refused why → Refused why ≡ whole
+      module _ (z : m ≡ 0 → ⊥) (d : Result (ℕ × State) Refusal) (f : d ≡ lay_out l n m c.at) where
+        pub count_unfit : (why : Refusal) → d ≡ Err why → Err why ≡ whole
         unfolding counted_left
         count_unfit why p = ap counted_left (put_unfit l at n held against r e m c q z d f why p) ∙ count_agrees
 
-        pub count_fits : (vals : ℕ) (st : State) → d ≡ parts.Fits vals st → (o : CallsStep)
+        pub count_fits : (vals : ℕ) (st : State) → d ≡ Ok (vals, st) → (o : Result (Cursor × ℕ) Refusal)
             → o ≡ counted_left (put_entries m l n vals held st against) → o ≡ whole
         count_fits vals st p o g = g ∙ ap counted_left (put_fits l at n held against r e m c q z d f vals st p _ refl) ∙ count_agrees
 
@@ -90,7 +84,7 @@ module _ (n : ℕ) (l row : List ℕ) (h : n ≤ length row) where
   pub leaning_count : (H : ℕ) → H ≡ heterozygous_count (take n row) → H ≡ heterozygous_count (base_row Row n l row)
   leaning_count H e = rw (row_is n l row h) e
 
-  pub leaning_counted : (at : ℕ) (r : CallsStep) → r ≡ counted OffRow (base_row Row n l row) n l at → r ≡ counted OffRow (take n row) n l at
+  pub leaning_counted : (at : ℕ) (r : Result (Cursor × ℕ) Refusal) → r ≡ counted OffRow (base_row Row n l row) n l at → r ≡ counted OffRow (take n row) n l at
   leaning_counted at r e = rw (row_is n l row h) at e
 
 pub ruleset leaning_laws = (leaning_count, leaning_counted)

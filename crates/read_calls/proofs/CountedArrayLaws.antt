@@ -1,5 +1,6 @@
 -- What each way out of the counts of a packed array and of a pair's bits says.
 -- Assumes nothing.
+use Rattle.std.specs.Prelude.{Result, Ok, Err}
 use mathlib.Core.Path.{◌≡◌, refl, sym, ap, ◌∙◌}
 use Prim.Native.Nat.{ℕ, zero, suc, ◌+◌, ◌-◌, ◌≤◌}
 use native.Mathlib.Omega.{arith}
@@ -12,7 +13,7 @@ use Rattle.format.specs.declared.Refusal.{Refusal}
 use Rattle.format.specs.Base.{pick, Below}
 use Rattle.format.specs.Limits.{most_samples}
 use Rattle.format.specs.Packed.{Bits, one, two, packed_size}
-use Rattle.format.specs.Track.{array}
+use Rattle.format.specs.declared.Kind.TheVariants.{Array}
 use Rattle.format.specs.Track.{read_kind}
 use Rattle.format.specs.Phase.{heterozygous, heterozygous_count, ones}
 use Rattle.base_calls.specs.CallCount.{call_count}
@@ -20,8 +21,6 @@ use Rattle.base_calls.proofs.CallCountLaws.{count_cons}
 use Rattle.base_cursor.specs.declared.Cursor.{Cursor}
 use Rattle.head_index.specs.NumbersAt.{digits_at}
 use Rattle.read_packed.specs.Unpacked.{array_at, of_pair}
-use Rattle.read_packed.specs.declared.PackedStep.{PackedStep}
-use Rattle.read_packed.specs.declared.PackedStep.TheVariants.{Next, Refused as NotPacked}
 use Rattle.read_packed.proofs.CheckLaws.{not_packed, accepted, next_inside, next_after, next_place, Held, accepted_held}
 use Rattle.read_phase.specs.Phases.{byte_ones}
 use Rattle.read_phase.proofs.OnesLaws.{packed_ones, ones_few}
@@ -31,14 +30,12 @@ use Rattle.read_calls.specs.Bytes.{byte_calls}
 use Rattle.read_calls.specs.Counted.{counted}
 use Rattle.read_calls.specs.Tracks.{track_counted, bits_counted}
 use Rattle.read_calls.specs.declared.StoredBase.TheVariants as base
-use Rattle.read_calls.specs.declared.CallsStep.{CallsStep}
-use Rattle.read_calls.specs.declared.CallsStep.TheVariants.{Counted, Refused}
 use Rattle.read_calls.proofs.BaseLaws.{bits_are}
 use Rattle.read_calls.proofs.CallBytes.{packed_calls}
 
 -- the bytes of an array that was accepted
-module _ (bits : Bits) (l : List ℕ) (at n : ℕ) (got : PackedStep) (told : got ≡ array_at bits n l at) (known : (i : ℕ) → Bounded w8 (get_or l i 0))
-    (h : at ≤ length l) (next : Cursor) (q : got ≡ Next next) where
+module _ (bits : Bits) (l : List ℕ) (at n : ℕ) (got : Result Cursor Refusal) (told : got ≡ array_at bits n l at) (known : (i : ℕ) → Bounded w8 (get_or l i 0))
+    (h : at ≤ length l) (next : Cursor) (q : got ≡ Ok next) where
   held : Held bits l at n next.at
   held = accepted_held bits l at n next (λ i. (known i).fits) (accepted bits l at n got told known h next q)
 
@@ -49,16 +46,16 @@ module _ (bits : Bits) (l : List ℕ) (at n : ℕ) (got : PackedStep) (told : go
 
 -- ---- kind 0
 
-module _ (l : List ℕ) (start n : ℕ) (got : PackedStep) (told : got ≡ array_at two n l start) where
-  pub plain_refused : (why : Refusal) → got ≡ NotPacked why → Refused why ≡ track_counted array n l start []
+module _ (l : List ℕ) (start n : ℕ) (got : Result Cursor Refusal) (told : got ≡ array_at two n l start) where
+  pub plain_refused : (why : Refusal) → got ≡ Err why → Err why ≡ track_counted Array n l start []
   unfolding track_counted read_kind
   plain_refused why q = rw (not_packed two l start n got told why q)
 
-  module _ (known : (i : ℕ) → Bounded w8 (get_or l i 0)) (h : start ≤ length l) (next : Cursor) (q : got ≡ Next next) where
+  module _ (known : (i : ℕ) → Bounded w8 (get_or l i 0)) (h : start ≤ length l) (next : Cursor) (q : got ≡ Ok next) where
     pub plain_few : n ≤ most_samples → length (take (next.at - start) (drop start l)) ≤ most_samples
     plain_few k = omega (arith, part_few two l start n got told known h next q (omega arith))
 
-    pub plain_next : (H : ℕ) → H ≡ byte_calls (take (next.at - start) (drop start l)) → Counted next H ≡ track_counted array n l start []
+    pub plain_next : (H : ℕ) → H ≡ byte_calls (take (next.at - start) (drop start l)) → Ok (next, H) ≡ track_counted Array n l start []
     unfolding track_counted read_kind
     plain_next H e =
         let k : H ≡ heterozygous_count (digits_at two (drop start l) 0 n)
@@ -127,12 +124,12 @@ pair_count lower higher (suc zero ∷ bits) h =
     more k = set_more (heterozygous lower) (heterozygous higher) (ones bits) (length bits) k
 pair_count lower higher (suc (suc bit) ∷ bits) h = absurd (omega (arith, h.0))
 
-module _ (l : List ℕ) (at n lower higher : ℕ) (got : PackedStep) (told : got ≡ array_at one n l at) where
-  pub bits_refused : (why : Refusal) → got ≡ NotPacked why → Refused why ≡ bits_counted lower higher n l at
+module _ (l : List ℕ) (at n lower higher : ℕ) (got : Result Cursor Refusal) (told : got ≡ array_at one n l at) where
+  pub bits_refused : (why : Refusal) → got ≡ Err why → Err why ≡ bits_counted lower higher n l at
   unfolding bits_counted
   bits_refused why q = rw (not_packed one l at n got told why q)
 
-  module _ (known : (i : ℕ) → Bounded w8 (get_or l i 0)) (h : at ≤ length l) (next : Cursor) (q : got ≡ Next next) where
+  module _ (known : (i : ℕ) → Bounded w8 (get_or l i 0)) (h : at ≤ length l) (next : Cursor) (q : got ≡ Ok next) where
     abbrev digits : List ℕ
     digits = digits_at one (drop at l) 0 n
 
@@ -162,7 +159,8 @@ module _ (l : List ℕ) (at n lower higher : ℕ) (got : PackedStep) (told : got
             (ap (λ (k : ℕ). pick (heterozygous higher) (ones digits) 0 + pick (heterozygous lower) (k - ones digits) 0) (sym was.count)
             ∙ sym (pair_count lower higher digits was.small))
 
-    pub bits_listed : (row : List ℕ) (r : CallsStep) → r ≡ counted (OffPair lower higher) (base_row (base.Bits at lower higher) n l row) n l next.at
+    pub bits_listed : (row : List ℕ) (r : Result (Cursor × ℕ) Refusal)
+        → r ≡ counted (OffPair lower higher) (base_row (base.Bits at lower higher) n l row) n l next.at
         → r ≡ bits_counted lower higher n l at
     unfolding bits_counted counted
     bits_listed row r d = rw (accepted one l at n got told known h next q).reads (rw (bits_are at lower higher n l row) at d)

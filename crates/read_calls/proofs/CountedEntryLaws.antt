@@ -1,5 +1,7 @@
 -- A turn of the loop of `count_entries`: what an entry does to the count of heterozygous samples.
 -- Assumes nothing.
+use Rattle.std.specs.Prelude.{Result, Ok, Err}
+use Rattle.base_cursor.specs.declared.Cursor.{Cursor}
 use mathlib.Core.Path.{◌≡◌, refl, sym, ap, ◌∙◌, subst}
 use Prim.Native.Nat.{ℕ, zero, suc, ◌+◌, ◌-◌, ◌/◌, ◌≤◌, ◌<◌}
 use native.Mathlib.Omega.{arith}
@@ -21,8 +23,6 @@ use Rattle.read_list.specs.Entries.{value_at, allows, Against, next_sample, bump
 use Rattle.read_list.specs.Room.{EntryReady, Room}
 use Rattle.read_list.specs.declared.ListRule.{ListRule}
 use Rattle.read_list.specs.declared.State.{State}
-use Rattle.read_list.specs.declared.EntryStep.{EntryStep}
-use Rattle.read_list.specs.declared.EntryStep.TheVariants as entry
 use Rattle.read_list.proofs.NumberLaws.{Known}
 use Rattle.read_list.proofs.SampleLaws.{Goes, Below, sample_below}
 use Rattle.read_list.proofs.LoopLaws.{put_start, put_end, put_ready, put_value_there, put_stop, put_on_room, put_on_with}
@@ -31,8 +31,6 @@ use Rattle.read_calls.specs.Tallied.{Counting}
 use Rattle.read_calls.specs.Counted.{counted_left}
 use Rattle.read_calls.specs.declared.StoredBase.{StoredBase}
 use Rattle.read_calls.specs.declared.Tally.{Tally}
-use Rattle.read_calls.specs.declared.CallsStep.{CallsStep}
-use Rattle.read_calls.specs.declared.CallsStep.TheVariants.{Counted, Refused}
 use Rattle.read_calls.proofs.BaseLaws.{base_at, base_against, same_rule, before_length, base_at_0}
 
 -- ---- H of a row after a call is set: it leaves the count, and its new category comes in
@@ -47,24 +45,24 @@ count_set (category ∷ row) (suc sample) value h =
 -- ---- an entry that is checked against the row would be put so into `work`
 
 -- what `work` would then hold
-abbrev placed : EntryStep → List ℕ → ℕ → List ℕ
-placed (entry.Refused why) work value = work
-placed (entry.On t) work value = set work t.last value
+abbrev placed : Result State Refusal → List ℕ → ℕ → List ℕ
+placed (Err why) work value = work
+placed (Ok t) work value = set work t.last value
 
 module _ (l : List ℕ) (vals : ℕ) (held : ListRule) (row work : List ℕ) where
   abbrev asked : List ℕ → State → Bool
   asked categories t = allows held (get_or categories t.last 0) (value_at l vals t.passed)
 
-  value_put : (x : EntryStep) (value : ℕ) → ((t : State) → x ≡ entry.On t → (value ≡ value_at l vals t.passed) × (asked work t ≡ asked row t))
+  value_put : (x : Result State Refusal) (value : ℕ) → ((t : State) → x ≡ Ok t → (value ≡ value_at l vals t.passed) × (asked work t ≡ asked row t))
       → let r = check_value l vals held x row in turn r (placed r work value) ≡ put_value l vals held x work
   unfolding check_value put_value
-  value_put (entry.Refused why) value same = refl
-  value_put (entry.On t) value same = rw ((same t refl).0, (same t refl).1) (by_value (asked row t))
+  value_put (Err why) value same = refl
+  value_put (Ok t) value same = rw ((same t refl).0, (same t refl).1) (by_value (asked row t))
     where
-      by_value : (b : Bool) → let r = pick b (entry.On (bump t)) (entry.Refused (refusal 17 (vals + t.passed / 4))) in
+      by_value : (b : Bool) → let r = pick b (Ok (bump t)) (Err (refusal 17 (vals + t.passed / 4))) in
           turn r (placed r work (value_at l vals t.passed))
-          ≡ pick b (turn (entry.On (bump t)) (set work t.last (value_at l vals t.passed)))
-          (turn (entry.Refused (refusal 17 (vals + t.passed / 4))) work)
+          ≡ pick b (turn (Ok (bump t)) (set work t.last (value_at l vals t.passed)))
+          (turn (Err (refusal 17 (vals + t.passed / 4))) work)
       by_value true = refl
       by_value false = refl
 
@@ -76,15 +74,15 @@ module _ (l : List ℕ) (n vals : ℕ) (held : ListRule) (row : List ℕ) (st : 
     pub passed : t.passed ≡ st.passed + 1
     pub above : (st.passed ≡ 0 → ⊥) → st.last < t.last
 
-  value_passes : (x : EntryStep) → x ≡ next_sample l n st → Goes Passes (check_value l vals held x row)
+  value_passes : (x : Result State Refusal) → x ≡ next_sample l n st → Goes Passes (check_value l vals held x row)
   unfolding check_value
-  value_passes (entry.Refused why) e = tt
-  value_passes (entry.On t) e =
-      let b : Below l n st t = sample_below l n st (entry.On t) t e refl in
+  value_passes (Err why) e = tt
+  value_passes (Ok t) e =
+      let b : Below l n st t = sample_below l n st (Ok t) t e refl in
       by_test (Goes Passes) (allows held (get_or row t.last 0) (value_at l vals t.passed))
       (λ a. record { last = b.last; passed = omega (arith, b.passed); above = b.above }) (λ a. tt)
 
-  pub entry_passes : {r : EntryStep} → r ≡ check_entry l n vals held st row → {t : State} → r ≡ entry.On t → Passes t
+  pub entry_passes : {r : Result State Refusal} → r ≡ check_entry l n vals held st row → {t : State} → r ≡ Ok t → Passes t
   entry_passes e q = subst (Goes Passes) (sym e ∙ q) (value_passes (next_sample l n st) refl)
 
 -- ---- `Counting` is the invariant
@@ -106,13 +104,13 @@ module _ {l : List ℕ} {n vals : ℕ} {base : StoredBase} {row : List ℕ} wher
   }
 
   module _ {count : ℕ} {first : State} {t : Tally} (w : Counting l n vals base count first row t) where
-    abbrev whole : CallsStep
+    abbrev whole : Result (Cursor × ℕ) Refusal
     whole = counted_left (put_entries count l n vals (rule_of base) first (base_row base n l row))
 
     pub count_kept : t.lost ≤ t.had
     count_kept = omega (arith, w.tally)
 
-    pub count_end : t.more ≤ 0 → Counted t.st.at (t.had - t.lost) ≡ whole
+    pub count_end : t.more ≤ 0 → Ok (t.st.at, t.had - t.lost) ≡ whole
     unfolding counted_left
     count_end p =
         let e : t.had - t.lost ≡ heterozygous_count w.work = omega (arith, w.tally) in
@@ -145,7 +143,7 @@ module _ {l : List ℕ} {n vals : ℕ} {base : StoredBase} {row : List ℕ} wher
       pub lost_fits : (old : ℕ) {b : ℕ} → b ≡ call_count old → Fits w64 (t.lost + b)
       lost_fits old e = omega (arith, w.few, w.putting.room.few, call_few old)
 
-      module _ {held : ListRule} (k : held ≡ rule_of base) {r : EntryStep} (got : r ≡ check_entry l n vals held t.st row) where
+      module _ {held : ListRule} (k : held ≡ rule_of base) {r : Result State Refusal} (got : r ≡ check_entry l n vals held t.st row) where
         e : r ≡ check_entry l n vals (rule_of base) t.st row
         e = rw k at got
 
@@ -159,11 +157,11 @@ module _ {l : List ℕ} {n vals : ℕ} {base : StoredBase} {row : List ℕ} wher
             let old : get_or w.work x.last 0 ≡ category_before base l row x.last = w.later x.last b.above b.last in
             (ap (value_at l vals) (sym b.passed), ap (λ (z : ℕ). allows (rule_of base) z v) old ∙ sym (same_rule base l row x.last v))))
 
-        pub count_stop : {why : Refusal} → r ≡ entry.Refused why → Refused why ≡ whole
+        pub count_stop : {why : Refusal} → r ≡ Err why → Err why ≡ whole
         unfolding counted_left
         count_stop q = ap counted_left (put_stop w.putting p put_so q)
 
-        module _ {x : State} (q : r ≡ entry.On x) where
+        module _ {x : State} (q : r ≡ Ok x) where
           passes : Passes l n vals (rule_of base) row t.st x
           passes = entry_passes l n vals (rule_of base) row t.st e q
 
@@ -175,7 +173,7 @@ module _ {l : List ℕ} {n vals : ℕ} {base : StoredBase} {row : List ℕ} wher
               → Counting l n vals base count first row (tally x (t.more - 1) (t.had + a) (t.lost + b))
           count_on known {value} {a} v f {old} {b} o g =
               let new : List ℕ = set w.work x.last value in
-              let put : turn (entry.On x) new ≡ put_entry l n vals (rule_of base) t.st w.work = rw v (rw q at put_so) in
+              let put : turn (Ok x) new ≡ put_entry l n vals (rule_of base) t.st w.work = rw v (rw q at put_so) in
               let long : length new ≡ length w.work = length-set w.work x.last value in
               let room : Room l n vals (t.more - 1) x = put_on_room w.putting p put known refl in
               let was : get_or w.work x.last 0 ≡ old = w.later x.last passes.above passes.last ∙ sym o in

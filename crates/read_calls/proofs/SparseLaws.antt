@@ -1,5 +1,6 @@
 -- A list against one category, which is not heterozygous: H is that of its values, and these are counted where their bytes stand.
 -- Assumes nothing.
+use Rattle.std.specs.Prelude.{Result, Ok, Err}
 use mathlib.Core.Path.{◌≡◌, refl, sym, ap, ◌∙◌, subst}
 use Prim.Native.Nat.{ℕ, zero, suc, ◌+◌, ◌-◌, ◌*◌, ◌≤◌, ◌<◌, zero-le}
 use native.Mathlib.Omega.{arith}
@@ -28,8 +29,6 @@ use Rattle.base_calls.specs.CallCount.{call_count}
 use Rattle.base_calls.proofs.CallCountLaws.{count_cons}
 use Rattle.base_cursor.specs.Steps.{varint_at}
 use Rattle.base_cursor.specs.declared.Cursor.{Cursor}
-use Rattle.base_cursor.specs.declared.VarintStep.{VarintStep}
-use Rattle.base_cursor.specs.declared.VarintStep.TheVariants as varint
 use Rattle.base_cursor.proofs.ByteLaws.{bytes_of}
 use Rattle.base_cursor.proofs.VarintLaws.{Read, was_read}
 use Rattle.read_packed.specs.Arrays.{unused}
@@ -38,17 +37,9 @@ use Rattle.read_list.specs.Listed.{may_hold}
 use Rattle.read_list.specs.Checked.{stepped, checked}
 use Rattle.read_list.specs.declared.ListRule.TheVariants.{OffPair}
 use Rattle.read_list.specs.declared.State.{State}
-use Rattle.read_list.specs.declared.CountStep.{CountStep}
-use Rattle.read_list.specs.declared.CountStep.TheVariants as count
-use Rattle.read_list.specs.declared.PartsStep.{PartsStep}
-use Rattle.read_list.specs.declared.PartsStep.TheVariants as parts
-use Rattle.read_list.specs.declared.ListStep.{ListStep}
-use Rattle.read_list.specs.declared.ListStep.TheVariants as list
 use Rattle.read_list.proofs.NumberLaws.{Known}
 use Rattle.read_calls.specs.Bytes.{byte_calls}
 use Rattle.read_calls.specs.Counted.{count_replied, counted}
-use Rattle.read_calls.specs.declared.CallsStep.{CallsStep}
-use Rattle.read_calls.specs.declared.CallsStep.TheVariants.{Counted, Refused}
 use Rattle.read_calls.proofs.CallBytes.{packed_calls}
 use Rattle.read_calls.proofs.CountedEntryLaws.{count_set}
 use Rattle.read_calls.proofs.CountAgrees.{parts_laws}
@@ -113,12 +104,12 @@ values_written w es left =
     rw (parted, drop_at first rest _ size) (take_at (packed two (values es)) _ _ (packed_length two (length es) (values es) (values_length es)))
 
 -- the parts of a list that fit
-abbrev Placed : List ℕ → ℕ → ℕ → ℕ → PartsStep → Type 0
-Placed l n m at (parts.Refused why) = Unit {0}
-Placed l n m at (parts.Fits vals st) = (vals ≡ values_at n m at) × (st.at.at ≡ steps_at n m at) × (steps_at n m at ≤ length l)
+abbrev Placed : List ℕ → ℕ → ℕ → ℕ → Result (ℕ × State) Refusal → Type 0
+Placed l n m at (Err why) = Unit {0}
+Placed l n m at (Ok (vals, st)) = (vals ≡ values_at n m at) × (st.at.at ≡ steps_at n m at) × (steps_at n m at ≤ length l)
 
-module _ (l : List ℕ) (n m : ℕ) (c : Cursor) (d : PartsStep) (f : d ≡ lay_out l n m c.at) (vals : ℕ) (st : State) (p : d ≡ parts.Fits vals st) where
-  placed : Placed l n m c.at (parts.Fits vals st)
+module _ (l : List ℕ) (n m : ℕ) (c : Cursor) (d : Result (ℕ × State) Refusal) (f : d ≡ lay_out l n m c.at) (vals : ℕ) (st : State) (p : d ≡ Ok (vals, st)) where
+  placed : Placed l n m c.at (Ok (vals, st))
   unfolding lay_out
   placed =
       let laid : Placed l n m c.at (lay_out l n m c.at)
@@ -152,20 +143,20 @@ module _ (l : List ℕ) (n m : ℕ) (c : Cursor) (d : PartsStep) (f : d ≡ lay_
         rw (size, place, ← drop-drop (number_width n * groups m + (groups m - 1)) c.at l, rest, many) (values_written (number_width n) es left)
 
 -- the count that was read
-abbrev CountRead : List ℕ → ℕ → CountStep → Type 0
-CountRead l at (count.Refused why) = Unit {0}
-CountRead l at (count.Of m c) = Read l at m c
+abbrev CountRead : List ℕ → ℕ → Result (ℕ × Cursor) Refusal → Type 0
+CountRead l at (Err why) = Unit {0}
+CountRead l at (Ok (m, c)) = Read l at m c
 
-count_read : (l : List ℕ) (at n : ℕ) → Known l → at ≤ length l → (x : VarintStep) → x ≡ varint_at l at → CountRead l at (count_of x n at)
+count_read : (l : List ℕ) (at n : ℕ) → Known l → at ≤ length l → (x : Result (ℕ × Cursor) Refusal) → x ≡ varint_at l at → CountRead l at (count_of x n at)
 unfolding count_of
-count_read l at n known a (varint.Refused why) e = tt
-count_read l at n known a (varint.Value m c) e =
+count_read l at n known a (Err why) e = tt
+count_read l at n known a (Ok (m, c)) e =
     by_test (CountRead l at) (leb m n) (λ t. was_read l at m c (λ i. (known i).fits) a e) (λ t. tt)
 
 -- ---- the ways out of `count_sparse` after the parts: `got` is what `check_list` gave, off a pair of two equal categories, which asks no row
 
-module _ (l : List ℕ) (at n category : ℕ) (row : List ℕ) (got : ListStep) (e : got ≡ checked (OffPair category category) n l at row) where
-  abbrev whole : CallsStep
+module _ (l : List ℕ) (at n category : ℕ) (row : List ℕ) (got : Result Cursor Refusal) (e : got ≡ checked (OffPair category category) n l at row) where
+  abbrev whole : Result (Cursor × ℕ) Refusal
   whole = counted (OffPair category category) (replicate n category) n l at
 
   abbrev asked : Rule
@@ -174,25 +165,25 @@ module _ (l : List ℕ) (at n category : ℕ) (row : List ℕ) (got : ListStep) 
   abbrev reads : Out (List Entry)
   reads = read_list asked (number_width n) (length l) (drop at l)
 
-  pub sparse_refused : (why : Refusal) → got ≡ list.Refused why → Refused why ≡ whole
+  pub sparse_refused : (why : Refusal) → got ≡ Err why → Err why ≡ whole
   unfolding counted checked
   sparse_refused why q = through reads (sym q ∙ e)
     where
-      through : (o : Out (List Entry)) → list.Refused why ≡ stepped (length l) o → Refused why ≡ count_replied (length l) (replicate n category) o
+      through : (o : Out (List Entry)) → Err why ≡ stepped (length l) o → Err why ≡ count_replied (length l) (replicate n category) o
       through (ok es left) p = absurd (let z : ◌≡◌ {A = ℕ} 0 1 = cc in omega arith)
-      through (refused other) p = let same : why ≡ other = cc in ap Refused same
+      through (refused other) p = let same : why ≡ other = cc in ap Err same
 
-  module _ (past : Cursor) (q : got ≡ list.Listed past) (z : heterozygous category ≡ false) (known : Known l) (a : at ≤ length l) (k : n ≤ most_samples)
-      (r : CountStep) (g : r ≡ count_of (varint_at l at) n at) (m : ℕ) (c : Cursor) (t : r ≡ count.Of m c)
-      (d : PartsStep) (f : d ≡ lay_out l n m c.at) (vals : ℕ) (st : State) (p : d ≡ parts.Fits vals st) where
-    pub sparse_listed : (H : ℕ) → H ≡ byte_calls (take (st.at.at - vals) (drop vals l)) → Counted past H ≡ whole
+  module _ (past : Cursor) (q : got ≡ Ok past) (z : heterozygous category ≡ false) (known : Known l) (a : at ≤ length l) (k : n ≤ most_samples)
+      (r : Result (ℕ × Cursor) Refusal) (g : r ≡ count_of (varint_at l at) n at) (m : ℕ) (c : Cursor) (t : r ≡ Ok (m, c))
+      (d : Result (ℕ × State) Refusal) (f : d ≡ lay_out l n m c.at) (vals : ℕ) (st : State) (p : d ≡ Ok (vals, st)) where
+    pub sparse_listed : (H : ℕ) → H ≡ byte_calls (take (st.at.at - vals) (drop vals l)) → Ok (past, H) ≡ whole
     unfolding counted checked
     sparse_listed H h =
         let bytes : Bytes (drop at l) = below_drop 256 at l (bytes_of l (λ i. (known i).fits)) in
         through reads (sym q ∙ e) (list_as_written asked (number_width n) (length l) (drop at l) bytes)
       where
-        through : (o : Out (List Entry)) → list.Listed past ≡ stepped (length l) o → Holds (IsList asked (number_width n) (drop at l)) o
-            → Counted past H ≡ count_replied (length l) (replicate n category) o
+        through : (o : Out (List Entry)) → Ok past ≡ stepped (length l) o → Holds (IsList asked (number_width n) (drop at l)) o
+            → Ok (past, H) ≡ count_replied (length l) (replicate n category) o
         through (refused why) u w = absurd (let z : ◌≡◌ {A = ℕ} 0 1 = cc in omega arith)
         through (ok es left) u w =
             let x : Read l at m c = subst (CountRead l at) (sym g ∙ t) (count_read l at n known a (varint_at l at) refl) in

@@ -1,5 +1,7 @@
 -- A turn of the loop of `count_short_steps`, and what it does for the walk that it is part of.
 -- Assumes nothing.
+use Rattle.std.specs.Prelude.{Option, Some, Result, Ok}
+use Rattle.format.specs.declared.Refusal.{Refusal}
 use mathlib.Core.Path.{◌≡◌, refl}
 use Prim.Native.Nat.{ℕ, suc, ◌+◌, ◌-◌, ◌/◌, ◌<◌}
 use native.Mathlib.Omega.{arith}
@@ -14,13 +16,9 @@ use Rattle.base_calls.specs.CallCount.{call_count}
 use Rattle.base_calls.proofs.CallCountLaws.{call_few}
 use Rattle.base_cursor.specs.Steps.{short_at}
 use Rattle.base_cursor.specs.declared.Cursor.{Cursor}
-use Rattle.base_cursor.specs.declared.ShortStep.{ShortStep}
-use Rattle.base_cursor.specs.declared.ShortStep.TheVariants.{Short}
 use Rattle.read_list.specs.Entries.{value_at, allows, Against, moved, bump, check_entry}
 use Rattle.read_list.specs.declared.ListRule.{ListRule}
 use Rattle.read_list.specs.declared.State.{State}
-use Rattle.read_list.specs.declared.EntryStep.{EntryStep}
-use Rattle.read_list.specs.declared.EntryStep.TheVariants as entry
 use Rattle.read_list.proofs.NumberLaws.{Known}
 use Rattle.read_list.proofs.EntryLaws.{against_sample, check_on, check_entry_on}
 use Rattle.read_list.proofs.RoomLaws.{checked_room}
@@ -62,7 +60,7 @@ module _ {l : List ℕ} {n vals : ℕ} {base : StoredBase} {row : List ℕ} wher
     last_more : suc (more - 1) ≡ more
     last_more = omega arith
 
-    step_on : Known l → {r : EntryStep} → r ≡ check_entry l n vals (rule_of base) st row → {t : State} → r ≡ entry.On t
+    step_on : Known l → {r : Result State Refusal} → r ≡ check_entry l n vals (rule_of base) st row → {t : State} → r ≡ Ok t
         → {value a : ℕ} → value ≡ value_at l vals st.passed → a ≡ call_count value
         → {old b : ℕ} → old ≡ category_before base l row t.last → b ≡ call_count old
         → Stepping l n vals base row from (tally t (more - 1) (had + a) (lost + b))
@@ -90,7 +88,7 @@ module _ {l : List ℕ} {n vals : ℕ} {base : StoredBase} {row : List ℕ} wher
       pub step_sum : Fits w64 (st.last + step)
       step_sum = omega (arith, w.standing.samples)
 
-      pub step_short : Known l → (st.room ≡ 0 → ⊥) → {got : ShortStep} → got ≡ short_at l st.at.at → {next : Cursor} → got ≡ Short step next
+      pub step_short : Known l → (st.room ≡ 0 → ⊥) → {got : Option (ℕ × Cursor)} → got ≡ short_at l st.at.at → {next : Cursor} → got ≡ Some (step, next)
           → (step ≡ 0 → ⊥) → {value : ℕ} → value ≡ value_at l vals st.passed
           → {held : ListRule} → held ≡ rule_of base → {b : Bool} → b ≡ allows held (get_or row (st.last + step) 0) value → not b ≡ false
           → {a : ℕ} → a ≡ call_count value → {old c : ℕ} → old ≡ category_before base l row (st.last + step) → c ≡ call_count old

@@ -9,11 +9,12 @@ ghost use Rattle.read_calls.specs.Bases.{rule_of, category_before, base_row, Bas
 ghost use Rattle.read_calls.specs.Tallied.{Standing, Stepping};
 ghost use Rattle.read_calls.specs.Counted.{counted_left, counted};
 
-use crate::{CallsStep, StoredBase, Tally};
+use crate::{StoredBase, Tally};
 use base_calls::call_count;
-use base_cursor::{Cursor, ShortStep};
+use base_cursor::Cursor;
+use format::Refusal;
 use read_list::entry::{check_value, may_hold, next_sample};
-use read_list::{CountStep, EntryStep, ListRule, PartsStep, State, lay_parts, read_count};
+use read_list::{ListRule, State, lay_parts, read_count};
 use read_packed::{of_pair, one_bit, two_bits};
 
 // 01, Categories and kinds: "No list holds a value it need not".
@@ -59,7 +60,7 @@ fn count_short_steps(
             break;
         }
         let here = st.at;
-        let ShortStep::Short(step, next) = here.short(s) else {
+        let Some((step, next)) = here.short(s) else {
             break;
         };
         if step == 0 {
@@ -97,17 +98,14 @@ fn count_entry(
     held: ListRule,
     st: State,
     row: &[u8],
-) -> EntryStep
+) -> Result<State, Refusal>
     requires entry_ready { EntryReady s.now n st }
     requires against { Against held n row.now }
     requires passed_in_bounds { values + st.passed / 4 < length s.now }
     ensures { result ≡ check_entry s.now n values held st row.now }
 {
-    let got = next_sample(s, n, st);
-    match got {
-        EntryStep::Refused(why) => EntryStep::Refused(why),
-        EntryStep::On(next) => check_value(s, values, held, next, row),
-    }
+    let next = next_sample(s, n, st)?;
+    check_value(s, values, held, next, row)
 }
 
 // All entries, one after another, from `first`. A sample that is listed leaves the count if it was heterozygous, and comes in if it is listed so.
@@ -118,7 +116,7 @@ fn count_entries(
     base: StoredBase,
     first: Tally,
     row: &[u8],
-) -> CallsStep
+) -> Result<(Cursor, usize), Refusal>
     requires room { Room s.now n values first.more first.st }
     requires n_le_most_samples { (n ≤ most_samples) × BaseThere base n s.now row.now }
     requires had_value { (first.had ≡ heterozygous_count (base_row base n s.now row.now)) × (first.lost ≡ 0) }
@@ -129,27 +127,20 @@ fn count_entries(
     let mut t = first;
     while t.more > 0 {
         let st = t.st;
-        let got = count_entry(s, n, values, held, st, row);
-        match got {
-            EntryStep::Refused(why) => {
-                return CallsStep::Refused(why);
-            }
-            EntryStep::On(next) => {
-                let value = two_bits(s, values, st.passed);
-                let old = category_before(s, base, row, next.last);
-                let from = Tally {
-                    st: next,
-                    more: t.more - 1,
-                    had: t.had + (call_count(value) as usize),
-                    lost: t.lost + (call_count(old) as usize),
-                };
-                t = count_short_steps(s, n, values, base, from, row);
-            }
-        }
+        let next = count_entry(s, n, values, held, st, row)?;
+        let value = two_bits(s, values, st.passed);
+        let old = category_before(s, base, row, next.last);
+        let from = Tally {
+            st: next,
+            more: t.more - 1,
+            had: t.had + (call_count(value) as usize),
+            lost: t.lost + (call_count(old) as usize),
+        };
+        t = count_short_steps(s, n, values, base, from, row);
     }
     let st = t.st;
     let at = st.at;
-    CallsStep::Counted(at, t.had - t.lost)
+    Ok((at, t.had - t.lost))
 }
 
 // The list at `c`, of n samples, against what `base` says, of which h are heterozygous: the cursor after it with the count of what it makes of them, or a
@@ -161,37 +152,33 @@ pub fn count_list(
     c: Cursor,
     row: &[u8],
     h: usize,
-) -> CallsStep
+) -> Result<(Cursor, usize), Refusal>
     requires at_in_bounds { (c.at ≤ length s.now) × (n ≤ most_samples) × BaseThere base n s.now row.now }
     requires h_value { h ≡ heterozygous_count (base_row base n s.now row.now) }
     ensures { result ≡ counted (rule_of base) (base_row base n s.now row.now) n s.now c.at }
 {
-    let listed = read_count(s, n, c);
-    match listed {
-        CountStep::Refused(why) => CallsStep::Refused(why),
-        CountStep::Of(m, next) => {
-            if m == 0 {
-                return CallsStep::Counted(next, h);
-            }
-            let laid = lay_parts(s, n, m, next);
-            match laid {
-                PartsStep::Refused(why) => CallsStep::Refused(why),
-                PartsStep::Fits { values, first } => {
-                    let from = Tally {
-                        st: first,
-                        more: m,
-                        had: h,
-                        lost: 0,
-                    };
-                    count_entries(s, n, values, base, from, row)
-                }
-            }
-        }
+    let (m, next) = read_count(s, n, c)?;
+    if m == 0 {
+        return Ok((next, h));
     }
+    let (values, first) = lay_parts(s, n, m, next)?;
+    let from = Tally {
+        st: first,
+        more: m,
+        had: h,
+        lost: 0,
+    };
+    count_entries(s, n, values, base, from, row)
 }
 
 // Likewise against a row's first n bytes, its anchor's categories.
-pub fn count_leaning(s: &[u8], n: usize, c: Cursor, row: &[u8], h: usize) -> CallsStep
+pub fn count_leaning(
+    s: &[u8],
+    n: usize,
+    c: Cursor,
+    row: &[u8],
+    h: usize,
+) -> Result<(Cursor, usize), Refusal>
     requires at_in_bounds { (c.at ≤ length s.now) × (n ≤ most_samples) × (n ≤ length row.now) }
     requires h_value { h ≡ heterozygous_count (take n row.now) }
     ensures { result ≡ counted OffRow (take n row.now) n s.now c.at }

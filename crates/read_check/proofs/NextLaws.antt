@@ -1,5 +1,6 @@
 -- The next record of a check of all: each way out of its check, and what that leaves for the records after it.
 -- Assumes nothing.
+use Rattle.std.specs.Prelude.{Result, ⊤}
 use mathlib.Core.Path.{◌≡◌, refl, sym, ap, ◌∙◌}
 use Prim.Native.Nat.{ℕ}
 use mathlib.Core.Bool.{Bool, true, false, not, ◌&&◌}
@@ -8,7 +9,6 @@ use mathlib.Core.Logic.{◌⊎◌, inl, inr}
 use lib.ListN.{length, take, drop, replicate, length-replicate}
 use lib.Seq.{drop_at}
 use Rattle.format.specs.declared.Refusal.{Refusal}
-use Rattle.format.specs.declared.Reply.{Reply}
 use Rattle.format.specs.Base.{pick, Out, ok, refused}
 use Rattle.format.specs.Body.{type_leans, Body, read_body, body_categories}
 use Rattle.read_record.specs.Recorded.{replied, RecordLeft, record_left, record_replied, recorded}
@@ -32,14 +32,14 @@ pub ruleset made_laws = (made_not, made_anchor)
 -- ---- the ways out of `check_next`: `made` is what `row_made` gave
 
 module _ (n type after : ℕ) (l : List ℕ) (start : ℕ) (row : List ℕ) (made : Bool) (e : made ≡ row_made type after) where
-  abbrev Next : Reply → List ℕ → Type 0
+  abbrev Next : Result ⊤ Refusal → List ℕ → Type 0
   Next r new = record_left r new ≡ next_checked n type after l start row
 
-  pub next_read : made ≡ true → (r : Reply) (new : List ℕ) → record_left r new ≡ recorded n type l start row → Next r new
+  pub next_read : made ≡ true → (r : Result ⊤ Refusal) (new : List ℕ) → record_left r new ≡ recorded n type l start row → Next r new
   unfolding next_checked
   next_read t r new d = rw (← e, t) d
 
-  pub next_only : made ≡ false → (r : Reply) → r ≡ body_checked n type l start row → Next r row
+  pub next_only : made ≡ false → (r : Result ⊤ Refusal) → r ≡ body_checked n type l start row → Next r row
   unfolding next_checked
   next_only t r d = rw (← e, t, d)
 
@@ -51,7 +51,7 @@ pub ruleset next_laws = (next_read, next_only)
 abbrev carried : Bool → ℕ → List ℕ → Body → List ℕ
 carried leans n row body = pick leans row (body_categories n (take n row) body ++ drop n row)
 
-module _ (n type after : ℕ) (l : List ℕ) (start : ℕ) (row : List ℕ) (r : Reply) (new : List ℕ)
+module _ (n type after : ℕ) (l : List ℕ) (start : ℕ) (row : List ℕ) (r : Result ⊤ Refusal) (new : List ℕ)
     (d : record_left r new ≡ next_checked n type after l start row) where
   abbrev read : Out Body
   read = read_body (length l) n (take n row) type (drop start l)

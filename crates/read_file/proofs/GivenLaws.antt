@@ -1,5 +1,6 @@
 -- One variant's categories given to an output: each way out of `copy_leaning` and `read_output`.
 -- Assumes nothing.
+use Rattle.std.specs.Prelude.{Result, Ok, Err, ⊤}
 use mathlib.Core.Path.{◌≡◌, refl, sym, ap, ◌∙◌}
 use mathlib.Core.Bool.{Bool, false}
 use Prim.Native.Nat.{ℕ, ◌≤◌}
@@ -8,8 +9,6 @@ use lib.ListN.{length, take, drop, get_or, replicate}
 use Rattle.format.specs.declared.FileVariant.{FileVariant}
 use Rattle.format.specs.declared.Fields.{Fields}
 use Rattle.format.specs.declared.Refusal.{Refusal}
-use Rattle.format.specs.declared.Reply.{Reply}
-use Rattle.format.specs.declared.Reply.TheVariants.{Accepted, Refused}
 use Rattle.format.specs.Base.{Out, ok, refused, map_out, naming}
 use Rattle.format.specs.Limits.{variants_to_a_block}
 use Rattle.format.specs.Body.{type_leans, Body, read_body, body_categories}
@@ -34,25 +33,25 @@ K = variants_to_a_block
 
 -- ---- a record that leans: read in the row
 
-module _ {index held : List ℕ} {f : Fields} {v : FileVariant} {row : List ℕ} {r : Reply} {row₁ : List ℕ} (c : VariantRead index held f v row r row₁)
+module _ {index held : List ℕ} {f : Fields} {v : FileVariant} {row : List ℕ} {r : Result ⊤ Refusal} {row₁ : List ℕ} (c : VariantRead index held f v row r row₁)
     (output : List ℕ) where
   abbrev l : Layout
   l = c.has.has.layout
 
-  pub given_refused : (why : Refusal) → r ≡ Refused why → VariantGiven index held f v output row (Refused why) output row₁
+  pub given_refused : (why : Refusal) → r ≡ Err why → VariantGiven index held f v output row (Err why) output row₁
   given_refused why q =
       let e : read_variant K l v ≡ refused why = row_refused l.samples row row₁ r (read_variant K l v) c.is why q in
       record { has = c.has; is = rw e refl; cleared = refused_row c why q }
 
-  pub given_copied : r ≡ Accepted → length row₁ ≡ length row → HasVariantRow index held f v row → (output₁ row₂ : List ℕ)
+  pub given_copied : r ≡ Ok tt → length row₁ ≡ length row → HasVariantRow index held f v row → (output₁ row₂ : List ℕ)
       → output₁ ≡ take f.samples row₁ ++ drop f.samples output → row₂ ≡ replicate f.samples 0 ++ drop f.samples row₁
-      → VariantGiven index held f v output row Accepted output₁ row₂
+      → VariantGiven index held f v output row (Ok tt) output₁ row₂
   given_copied q same room output₁ row₂ a b =
       let x : RowRead f.samples row row₁ (read_variant K l v) = read_accepted c q same room.room in
       record {
         has = c.has;
         is =
-            ap (record_left Accepted) (a ∙ ap (λ (z : List ℕ). z ++ drop f.samples output) x.front)
+            ap (record_left (Ok tt)) (a ∙ ap (λ (z : List ℕ). z ++ drop f.samples output) x.front)
             ∙ ap (straight_replied f.samples output) (sym x.is)
             ∙ ap (λ (n : ℕ). straight_replied n output (read_variant K l v)) (samples_are c.has.has.stored c.has.has.fields_are);
         cleared = b ∙ ap (λ (z : List ℕ). replicate f.samples 0 ++ z) x.rest;
@@ -94,7 +93,7 @@ module _ {index held : List ℕ} {f : Fields} {v : FileVariant} {row : List ℕ}
   pub stands : type_leans p.record_type ≡ false
   stands = sym k ∙ s
 
-  pub given_straight : (output output₁ row₁ : List ℕ) (got r : Reply)
+  pub given_straight : (output output₁ row₁ : List ℕ) (got r : Result ⊤ Refusal)
       → record_left got output₁ ≡ straight f.samples p.record_type (take p.end held) p.start output
       → row₁ ≡ replicate f.samples 0 ++ drop f.samples row → r ≡ named_reply v got
       → VariantGiven index held f v output row r output₁ row₁

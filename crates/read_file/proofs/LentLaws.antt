@@ -1,5 +1,6 @@
 -- What a variant leans on, read into the row before its own record is: each way out of `read_anchor`, and what its reply tells.
 -- Assumes nothing.
+use Rattle.std.specs.Prelude.{Result, Ok, Err, ⊤}
 use mathlib.Core.Path.{◌≡◌, refl, sym, ap, ◌∙◌}
 use mathlib.Core.Bool.{Bool, true, false}
 use Prim.Native.Nat.{ℕ, ◌≤◌}
@@ -10,8 +11,6 @@ use native.Mathlib.Omega.{arith}
 use Rattle.format.specs.declared.FileVariant.{FileVariant}
 use Rattle.format.specs.declared.Fields.{Fields}
 use Rattle.format.specs.declared.Refusal.{Refusal}
-use Rattle.format.specs.declared.Reply.{Reply}
-use Rattle.format.specs.declared.Reply.TheVariants.{Accepted, Refused}
 use Rattle.format.specs.Base.{pick, Bytes, Out, ok, refused, bind, map_out, naming}
 use Rattle.format.specs.Limits.{most_samples, variants_to_a_block}
 use Rattle.format.specs.Body.{type_leans, Body, read_body, body_categories}
@@ -55,10 +54,10 @@ at_layout h g = record {
 -- ---- a record that was located, read over a row
 
 -- what the code is told of it, before its variant is named
-abbrev pub Told : List ℕ → Fields → Place → List ℕ → List ℕ → Reply → Type 0
+abbrev pub Told : List ℕ → Fields → Place → List ℕ → List ℕ → Result ⊤ Refusal → Type 0
 Told held f p row row₁ got = record_left got row₁ ≡ recorded f.samples p.record_type (take p.end held) p.start row
 
-module _ {index held : List ℕ} {f : Fields} {v : FileVariant} {p : Place} (g : Located index held f v p) (row row₁ : List ℕ) (got r : Reply)
+module _ {index held : List ℕ} {f : Fields} {v : FileVariant} {p : Place} (g : Located index held f v p) (row row₁ : List ℕ) (got r : Result ⊤ Refusal)
     (d : Told held f p row row₁ got) (n : r ≡ named_reply v got) where
   abbrev there : Layout
   there = g.has.layout
@@ -84,7 +83,7 @@ module _ {index held : List ℕ} {f : Fields} {v : FileVariant} {p : Place} (g :
 
 -- ---- what the reply tells, whatever is read of the variant's body
 
-module _ {index held : List ℕ} {f : Fields} {v : FileVariant} {row : List ℕ} {r : Reply} {row₁ : List ℕ} (c : AnchorRead index held f v row r row₁)
+module _ {index held : List ℕ} {f : Fields} {v : FileVariant} {row : List ℕ} {r : Result ⊤ Refusal} {row₁ : List ℕ} (c : AnchorRead index held f v row r row₁)
     {A : Type 0} (what : ℕ → List ℕ → Body → A) where
   abbrev l : Layout
   l = c.has.has.layout
@@ -97,13 +96,13 @@ module _ {index held : List ℕ} {f : Fields} {v : FileVariant} {row : List ℕ}
   lent = read_over K l [] (anchor K l.types v)
 
   abbrev Left : Bool → Type 0
-  Left t = record_left r row₁ ≡ pick t (row_replied N row lent) (record_left Accepted row)
+  Left t = record_left r row₁ ≡ pick t (row_replied N row lent) (record_left (Ok tt) row)
 
   abbrev over_lent : Bool → Out A
   over_lent t = pick t (bind lent (λ anchor left. over_as what K l anchor v)) (over_as what K l [] v)
 
   -- accepted: it is read over the row's first N bytes, and what stands behind them stays
-  pub lent_accepted : Bytes held → Unleaning K l (lit< tt) c.has.has.stored.obeys what → r ≡ Accepted → length row₁ ≡ length row → f.samples ≤ length row
+  pub lent_accepted : Bytes held → Unleaning K l (lit< tt) c.has.has.stored.obeys what → r ≡ Ok tt → length row₁ ≡ length row → f.samples ≤ length row
       → (variant_as what K l v ≡ over_as what K l (take N row₁) v) × (drop N row₁ ≡ drop N row)
   unfolding variant_as over_as
   lent_accepted y unleaning q same room = go (variant_leans l v) refl c.is
@@ -123,7 +122,7 @@ module _ {index held : List ℕ} {f : Fields} {v : FileVariant} {row : List ℕ}
           )
 
   -- refused: so is the variant, and the row's first N bytes are zero
-  pub lent_refused : (why : Refusal) → r ≡ Refused why → (variant_as what K l v ≡ refused why) × (row₁ ≡ emptied N row)
+  pub lent_refused : (why : Refusal) → r ≡ Err why → (variant_as what K l v ≡ refused why) × (row₁ ≡ emptied N row)
   unfolding variant_as
   lent_refused why q = go (variant_leans l v) c.is
     where
@@ -131,7 +130,7 @@ module _ {index held : List ℕ} {f : Fields} {v : FileVariant} {row : List ℕ}
       go true d =
           let e : lent ≡ refused why = row_refused N row row₁ r lent d why q in
           (ap (λ (m : Out (List ℕ)). bind m (λ anchor left. over_as what K l anchor v)) e, ap row_of (d ∙ ap (row_replied N row) e))
-      go false d = absurd (let e : Refused why ≡ Accepted = sym q ∙ ap reply_of d in let z : ◌≡◌ {A = ℕ} 0 1 = cc in omega arith)
+      go false d = absurd (let e : Err why ≡ (Ok tt) = sym q ∙ ap reply_of d in let z : ◌≡◌ {A = ℕ} 0 1 = cc in omega arith)
 
 -- ---- in the code's own terms
 
@@ -150,12 +149,12 @@ module _ {index held : List ℕ} {f : Fields} {v : FileVariant} {row : List ℕ}
   pub leans_there : t ≡ true → HasLeaner index held f v
   leans_there s = record { has = h.has; leaner = leans_as ∙ s }
 
-  pub none_lent : t ≡ false → AnchorRead index held f v row Accepted row
+  pub none_lent : t ≡ false → AnchorRead index held f v row (Ok tt) row
   none_lent s = record { has = h.has; is = rw (leans_as ∙ s) refl }
 
   -- its anchor x, which was located and read
   pub some_lent : Bytes held → t ≡ true → {x : FileVariant} → Anchored index held f v x → {q : Place} → Located index held f x q
-      → (row₁ : List ℕ) (got r : Reply) → Told held f q row row₁ got → r ≡ named_reply x got → AnchorRead index held f v row r row₁
+      → (row₁ : List ℕ) (got r : Result ⊤ Refusal) → Told held f q row row₁ got → r ≡ named_reply x got → AnchorRead index held f v row r row₁
   some_lent y s {x} a {q} e row₁ got r d n =
       let l : Layout = h.has.has.layout in
       let o : LayoutObeys K l = h.has.has.stored.obeys in

@@ -1,5 +1,6 @@
 -- One variant, read over its anchor if it leans: its categories, and its phases too.
 -- Assumes nothing.
+use Rattle.std.specs.Prelude.{Result, Ok, Err, ⊤}
 use mathlib.Core.Path.{◌≡◌, refl, sym, ap, ◌∙◌}
 use Prim.Native.Nat.{ℕ, ◌≤◌}
 use mathlib.Core.List.{List, [], ◌++◌}
@@ -7,8 +8,6 @@ use lib.ListN.{length, take, drop, get_or, replicate}
 use Rattle.format.specs.declared.FileVariant.{FileVariant}
 use Rattle.format.specs.declared.Fields.{Fields}
 use Rattle.format.specs.declared.Refusal.{Refusal}
-use Rattle.format.specs.declared.Reply.{Reply}
-use Rattle.format.specs.declared.Reply.TheVariants.{Accepted, Refused}
 use Rattle.format.specs.Base.{Bytes, Out, ok, refused, map_out, naming}
 use Rattle.format.specs.Limits.{variants_to_a_block}
 use Rattle.format.specs.Body.{Body, read_body, body_categories, Reading, body_reading}
@@ -32,14 +31,14 @@ K = variants_to_a_block
 
 -- what stands behind the first N bytes is all that counts of a row
 same_rest : (N : ℕ) (row row₁ : List ℕ) (m : Out (List ℕ)) → drop N row₁ ≡ drop N row → row_replied N row₁ m ≡ row_replied N row m
-same_rest N row row₁ (ok categories left) e = ap (λ (z : List ℕ). record_left Accepted (categories ++ z)) e
-same_rest N row row₁ (refused why) e = ap (λ (z : List ℕ). record_left (Refused why) (replicate N 0 ++ z)) e
+same_rest N row row₁ (ok categories left) e = ap (λ (z : List ℕ). record_left (Ok tt) (categories ++ z)) e
+same_rest N row row₁ (refused why) e = ap (λ (z : List ℕ). record_left (Err why) (replicate N 0 ++ z)) e
 
 same_rest_phased : (N : ℕ) (row row₁ output : List ℕ) (m : Out Reading) → drop N row₁ ≡ drop N row
     → reading_replied N row₁ output m ≡ reading_replied N row output m
 same_rest_phased N row row₁ output (ok reading left) e =
-    ap (λ (z : List ℕ). phased_left Accepted (reading.categories ++ z) (reading.phases ++ drop N output)) e
-same_rest_phased N row row₁ output (refused why) e = ap (λ (z : List ℕ). phased_left (Refused why) (replicate N 0 ++ z) output) e
+    ap (λ (z : List ℕ). phased_left (Ok tt) (reading.categories ++ z) (reading.phases ++ drop N output)) e
+same_rest_phased N row row₁ output (refused why) e = ap (λ (z : List ℕ). phased_left (Err why) (replicate N 0 ++ z) output) e
 
 -- a record's categories in a row, and its phases in an output, or a refusal that names its variant
 phased_too : (N : ℕ) (v : FileVariant) (row output : List ℕ) (m : Out Body)
@@ -48,12 +47,12 @@ phased_too N v row output (ok body left) = refl
 phased_too N v row output (refused why) = refl
 
 -- what the code is told of a record that was located, whose phases are read too, before its variant is named
-abbrev ToldPhased : List ℕ → Fields → Place → List ℕ → List ℕ → List ℕ → List ℕ → Reply → Type 0
+abbrev ToldPhased : List ℕ → Fields → Place → List ℕ → List ℕ → List ℕ → List ℕ → Result ⊤ Refusal → Type 0
 ToldPhased held f p row row₁ output output₁ got =
     phased_left got row₁ output₁ ≡ phased_recorded f.samples p.record_type (take p.end held) p.start row output
 
 phased_it : {index held : List ℕ} {f : Fields} {v : FileVariant} {p : Place} (g : Located index held f v p) (row row₁ output output₁ : List ℕ)
-    (got r : Reply) → ToldPhased held f p row row₁ output output₁ got → r ≡ named_reply v got → let N : ℕ = g.has.layout.samples in
+    (got r : Result ⊤ Refusal) → ToldPhased held f p row row₁ output output₁ got → r ≡ named_reply v got → let N : ℕ = g.has.layout.samples in
     phased_left r row₁ output₁ ≡ reading_replied N row output (over_as body_reading K g.has.layout (take N row) v)
 unfolding over_as
 phased_it {v = v} g row row₁ output output₁ got r d n =
@@ -69,21 +68,22 @@ pub still_room : {index held : List ℕ} {f : Fields} {v : FileVariant} {row : L
     → length row₁ ≡ length row → f.samples ≤ length row₁
 still_room h row₁ e = rw e h.room
 
-module _ {index held : List ℕ} {f : Fields} {v : FileVariant} {row : List ℕ} {r : Reply} {row₁ : List ℕ} (c : AnchorRead index held f v row r row₁) where
+module _ {index held : List ℕ} {f : Fields} {v : FileVariant} {row : List ℕ} {r : Result ⊤ Refusal} {row₁ : List ℕ}
+    (c : AnchorRead index held f v row r row₁) where
   abbrev l : Layout
   l = c.has.has.layout
 
   abbrev N : ℕ
   N = l.samples
 
-  pub row_none : (why : Refusal) → r ≡ Refused why → VariantRead index held f v row (Refused why) row₁
+  pub row_none : (why : Refusal) → r ≡ Err why → VariantRead index held f v row (Err why) row₁
   row_none why q = let x = lent_refused c body_categories why q in record { has = c.has; is = rw (x.0, x.1) refl }
 
-  pub phased_none : (output : List ℕ) (why : Refusal) → r ≡ Refused why → VariantPhased index held f v row output (Refused why) row₁ output
+  pub phased_none : (output : List ℕ) (why : Refusal) → r ≡ Err why → VariantPhased index held f v row output (Err why) row₁ output
   phased_none output why q = let x = lent_refused c body_reading why q in record { has = c.has; is = rw (x.0, x.1) refl }
 
-  module _ (q : r ≡ Accepted) (y : Bytes held) (same : length row₁ ≡ length row) (room : HasVariantRow index held f v row) {p : Place}
-      (g : Located index held f v p) (row₂ : List ℕ) (got r₂ : Reply) (n : r₂ ≡ named_reply v got) where
+  module _ (q : r ≡ Ok tt) (y : Bytes held) (same : length row₁ ≡ length row) (room : HasVariantRow index held f v row) {p : Place}
+      (g : Located index held f v p) (row₂ : List ℕ) (got r₂ : Result ⊤ Refusal) (n : r₂ ≡ named_reply v got) where
     pub row_over : Told held f p row₁ row₂ got → VariantRead index held f v row r₂ row₂
     row_over d =
         let x = lent_accepted c body_categories y (row_anchor_unused N) q same room.room in

@@ -1,5 +1,6 @@
 -- What a caller learns from the reply of a read of one variant, its phases too.
 -- Assumes nothing.
+use Rattle.std.specs.Prelude.{Result, Ok, Err, ⊤}
 use mathlib.Core.Path.{◌≡◌, refl, sym, ap, ◌∙◌}
 use Prim.Native.Nat.{ℕ, ◌≤◌}
 use mathlib.Core.List.{List, ◌++◌}
@@ -9,8 +10,6 @@ use native.Mathlib.Omega.{arith}
 use Rattle.format.specs.declared.FileVariant.{FileVariant}
 use Rattle.format.specs.declared.Fields.{Fields}
 use Rattle.format.specs.declared.Refusal.{Refusal}
-use Rattle.format.specs.declared.Reply.{Reply}
-use Rattle.format.specs.declared.Reply.TheVariants.{Accepted, Refused}
 use Rattle.format.specs.Base.{Bytes, Out, ok, refused}
 use Rattle.format.specs.Limits.{variants_to_a_block}
 use Rattle.format.specs.Body.{Reading, body_reading}
@@ -30,7 +29,7 @@ pub record ReadingRead (N : ℕ) (row row₁ output output₁ : List ℕ) (m : O
   pub phases : output₁ ≡ value.phases ++ drop N output
   pub rest : drop N row₁ ≡ drop N row
 
-abbrev phased_reply : PhasedLeft → Reply
+abbrev phased_reply : PhasedLeft → Result ⊤ Refusal
 phased_reply (phased_left reply row output) = reply
 
 abbrev phased_row : PhasedLeft → List ℕ
@@ -43,7 +42,7 @@ reading_reply : (N : ℕ) (row output : List ℕ) (m : Out Reading) → phased_r
 reading_reply N row output (ok reading left) = refl
 reading_reply N row output (refused why) = refl
 
-module _ {index held : List ℕ} {f : Fields} {v : FileVariant} {row output : List ℕ} {r : Reply} {later out : List ℕ}
+module _ {index held : List ℕ} {f : Fields} {v : FileVariant} {row output : List ℕ} {r : Result ⊤ Refusal} {later out : List ℕ}
     (c : VariantPhased index held f v row output r later out) where
   abbrev l : Layout
   l = c.has.has.layout
@@ -60,7 +59,7 @@ module _ {index held : List ℕ} {f : Fields} {v : FileVariant} {row output : Li
   reply : replied m ≡ r
   reply = sym (ap phased_reply told ∙ reading_reply f.samples row output m)
 
-  pub phases_accepted : r ≡ Accepted → length later ≡ length row → f.samples ≤ length row → ReadingRead f.samples row later output out m
+  pub phases_accepted : r ≡ Ok tt → length later ≡ length row → f.samples ≤ length row → ReadingRead f.samples row later output out m
   phases_accepted q same room =
       let N : ℕ = f.samples in
       let w : WasRead Reading m = was_accepted m (reply ∙ q) in
@@ -75,7 +74,7 @@ module _ {index held : List ℕ} {f : Fields} {v : FileVariant} {row output : Li
         rest = ap (drop N) e ∙ drop_at w.value.categories (drop N row) N count;
       }
 
-  module _ (why : Refusal) (q : r ≡ Refused why) where
+  module _ (why : Refusal) (q : r ≡ Err why) where
     no_reading : m ≡ refused why
     no_reading = was_refused m why (reply ∙ q)
 

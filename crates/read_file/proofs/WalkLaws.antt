@@ -1,5 +1,6 @@
 -- A walk through all records in variant order: what is left to check, and what the row holds.
 -- Assumes nothing.
+use Rattle.std.specs.Prelude.{Result, Ok, Err, ⊤}
 use mathlib.Core.Path.{◌≡◌, refl, sym, ap, ◌∙◌, subst}
 use mathlib.Core.Bool.{Bool, false}
 use Prim.Native.Nat.{ℕ, zero, suc, ◌+◌, ◌≤◌, ◌<◌}
@@ -14,8 +15,6 @@ use native.Mathlib.Omega.{arith}
 use Rattle.format.specs.declared.FileVariant.{FileVariant}
 use Rattle.format.specs.declared.Fields.{Fields}
 use Rattle.format.specs.declared.Refusal.{Refusal}
-use Rattle.format.specs.declared.Reply.{Reply}
-use Rattle.format.specs.declared.Reply.TheVariants.{Accepted, Refused}
 use Rattle.format.specs.Base.{pick, Bytes, Out, ok, refused, naming, named}
 use Rattle.format.specs.Limits.{most_samples, most_variants, variants_to_a_block}
 use Rattle.format.specs.Body.{kind_of, type_leans, Body, read_body, body_categories}
@@ -122,7 +121,7 @@ module _ {index held : List ℕ} {f : Fields} {row₀ row : List ℕ} {start v t
       record { has = w.has; is = rw (reply, left) refl }
 
   -- nothing is left
-  pub check_ends : f.variants ≤ v → (last : List ℕ) → last ≡ emptied f.samples row → RecordsChecked index held f row₀ Accepted last
+  pub check_ends : f.variants ≤ v → (last : List ℕ) → last ≡ emptied f.samples row → RecordsChecked index held f row₀ (Ok tt) last
   check_ends m last g =
       let all : v ≡ length l.bodies = omega (arith, w.reached, count_is w.has.stored w.has.fields_are) in
       let none : left_to_check K l v (take N row) ≡ ok tt [] =
@@ -148,7 +147,7 @@ module _ {index held : List ℕ} {f : Fields} {row₀ row : List ℕ} {start v t
     pub body_inside : start ≤ length (take (start + size) held)
     body_inside = cut_start there
 
-    module _ (row₁ : List ℕ) (r : Reply) (after : ℕ)
+    module _ (row₁ : List ℕ) (r : Result ⊤ Refusal) (after : ℕ)
         (d : record_left r row₁ ≡ next_checked f.samples type after (take (start + size) held) start row) where
       -- the record, and a refusal of it that names its variant
       abbrev plain : Out Body
@@ -211,7 +210,7 @@ module _ {index held : List ℕ} {f : Fields} {row₀ row : List ℕ} {start v t
                 = rw next at (t.is (omega (arith, count_is w.has.stored w.has.fields_are))) in
                 ap type_leans (sym (is ∙ type_is w.has.stored w.has.fields_are (file_variant (suc v)) b)) ∙ s
 
-      pub check_goes_on : TypeIfAny index f (file_variant (v + 1)) after → r ≡ Accepted → length row₁ ≡ length row
+      pub check_goes_on : TypeIfAny index f (file_variant (v + 1)) after → r ≡ Ok tt → length row₁ ≡ length row
           → Checking index held f row₀ row₁ (start + size) (v + 1) after
       check_goes_on t q g =
           let x : WasRead Body plain = was_accepted plain (sym found ∙ q) in
@@ -234,8 +233,8 @@ module _ {index held : List ℕ} {f : Fields} {row₀ row : List ℕ} {start v t
           }
 
       -- the row is emptied then
-      pub check_stops : (why later : Refusal) → r ≡ Refused why → later ≡ named here why → (last : List ℕ) → last ≡ emptied f.samples row₁
-          → RecordsChecked index held f row₀ (Refused later) last
+      pub check_stops : (why later : Refusal) → r ≡ Err why → later ≡ named here why → (last : List ℕ) → last ≡ emptied f.samples row₁
+          → RecordsChecked index held f row₀ (Err later) last
       check_stops why later q n last g =
           let x : plain ≡ refused why = was_refused plain why (sym found ∙ q) in
           let behind : drop N row₁ ≡ drop N row

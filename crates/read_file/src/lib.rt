@@ -9,7 +9,7 @@ ghost use Rattle.read_file.specs.Rows.{HasRow, HasVariantRow, TypeIfAny, Records
 
 use base_cursor::Cursor;
 use base_rows::{clear, copy};
-use format::{Fields, FileVariant, Reply, named, named_reply};
+use format::{Fields, FileVariant, Refusal, named, named_reply};
 use head_blocks::first_record;
 use head_places::{Place, anchor_of, place_of};
 use head_records::{size_of, type_of};
@@ -31,34 +31,28 @@ fn type_if_any(index: &[u8], f: Fields, v: FileVariant) -> u8
 // 01, Replies: "the whole-file check, which goes in variant order". Where the next record leans, the row holds the categories of its anchor, the last
 // record that leans on none. A type is looked up once, as that of the record after, and carried to its own turn. `held` is what the
 // data holds that the index speaks of: a file in one piece is both.
-pub fn check_records(index: &[u8], held: &[u8], f: Fields, row: &mut [u8]) -> Reply
+pub fn check_records(index: &[u8], held: &[u8], f: Fields, row: &mut [u8]) -> Result<(), Refusal>
     requires { HasRow index.now held.now f row.old }
     ensures { RecordsChecked index.now held.now f row.old result row.new }
 {
     let m = f.variants;
     let n = f.samples;
     let mut start = first_record(f);
-    let mut v: usize = 0;
-    let mut record_type = type_if_any(index, f, FileVariant(v));
-    while v < m {
+    let mut record_type = type_if_any(index, f, FileVariant(0));
+    for v in 0..m {
         let end = start + size_of(index, f, FileVariant(v));
         let after = type_if_any(index, f, FileVariant(v + 1));
         let here = Cursor { at: start };
         let got = check_next(&held[..end], here, n, record_type, after, row);
-        match got {
-            Reply::Refused(why) => {
-                clear(row, n);
-                return Reply::Refused(named(FileVariant(v), why));
-            }
-            Reply::Accepted => {
-                start = end;
-                v = v + 1;
-                record_type = after;
-            }
+        if let Err(why) = got {
+            clear(row, n);
+            return Err(named(FileVariant(v), why));
         }
+        start = end;
+        record_type = after;
     }
     clear(row, n);
-    Reply::Accepted
+    Ok(())
 }
 
 // 01: "an anchor is checked before the record that leans on it". The anchor's categories into the row, where the record of variant v at `p` leans.
@@ -69,7 +63,7 @@ fn read_anchor(
     v: FileVariant,
     p: Place,
     row: &mut [u8],
-) -> Reply
+) -> Result<(), Refusal>
     requires has_variant_row { HasVariantRow index.now held.now f v row.old }
     requires located { Located index.now held.now f v p }
     ensures { AnchorRead index.now held.now f v row.old result row.new }
@@ -82,29 +76,37 @@ fn read_anchor(
         let got = read_body(&held[..end], there, f.samples, a.record_type, row);
         return named_reply(anchor, got);
     }
-    Reply::Accepted
+    Ok(())
 }
 
 // 01: "a read or lookup checks only its variant's, and an anchor is checked before the record that leans on it". The record of variant v stands at `p`.
-fn read_at(index: &[u8], held: &[u8], f: Fields, v: FileVariant, p: Place, row: &mut [u8]) -> Reply
+fn read_at(
+    index: &[u8],
+    held: &[u8],
+    f: Fields,
+    v: FileVariant,
+    p: Place,
+    row: &mut [u8],
+) -> Result<(), Refusal>
     requires has_variant_row { HasVariantRow index.now held.now f v row.old }
     requires located { Located index.now held.now f v p }
     ensures { VariantRead index.now held.now f v row.old result row.new }
 {
     let end = p.end;
     let here = Cursor { at: p.start };
-    let lent = read_anchor(index, held, f, v, p, row);
-    match lent {
-        Reply::Refused(why) => Reply::Refused(why),
-        Reply::Accepted => {
-            let got = read_body(&held[..end], here, f.samples, p.record_type, row);
-            named_reply(v, got)
-        }
-    }
+    read_anchor(index, held, f, v, p, row)?;
+    let got = read_body(&held[..end], here, f.samples, p.record_type, row);
+    named_reply(v, got)
 }
 
 // The categories of variant v into the row.
-pub fn read_row(index: &[u8], held: &[u8], f: Fields, v: FileVariant, row: &mut [u8]) -> Reply
+pub fn read_row(
+    index: &[u8],
+    held: &[u8],
+    f: Fields,
+    v: FileVariant,
+    row: &mut [u8],
+) -> Result<(), Refusal>
     requires { HasVariantRow index.now held.now f v row.old }
     ensures { VariantRead index.now held.now f v row.old result row.new }
 {
@@ -121,22 +123,17 @@ fn copy_leaning(
     p: Place,
     output: &mut [u8],
     row: &mut [u8],
-) -> Reply
+) -> Result<(), Refusal>
     requires has_variant_row { HasVariantRow index.now held.now f v row.old }
     requires located { Located index.now held.now f v p × (f.samples ≤ length output.old) }
     ensures { VariantGiven index.now held.now f v output.old row.old
         result output.new row.new }
 {
     let n = f.samples;
-    let got = read_at(index, held, f, v, p, row);
-    match got {
-        Reply::Refused(why) => Reply::Refused(why),
-        Reply::Accepted => {
-            copy(row, n, output);
-            clear(row, n);
-            Reply::Accepted
-        }
-    }
+    read_at(index, held, f, v, p, row)?;
+    copy(row, n, output);
+    clear(row, n);
+    Ok(())
 }
 
 // The categories of variant v into the output, which a refusal finds untouched. 02, Ask 3: one that leans on nothing goes "straight to the output".
@@ -147,7 +144,7 @@ pub fn read_output(
     v: FileVariant,
     output: &mut [u8],
     row: &mut [u8],
-) -> Reply
+) -> Result<(), Refusal>
     requires has_variant_row { HasVariantRow index.now held.now f v row.old }
     requires samples_in_bounds { f.samples ≤ length output.old }
     ensures { VariantGiven index.now held.now f v output.old row.old
@@ -173,7 +170,7 @@ pub fn read_phases(
     v: FileVariant,
     row: &mut [u8],
     output: &mut [u8],
-) -> Reply
+) -> Result<(), Refusal>
     requires has_variant_row { HasVariantRow index.now held.now f v row.old }
     requires samples_in_bounds { f.samples ≤ length output.old }
     ensures { VariantPhased index.now held.now f v row.old output.old
@@ -182,12 +179,7 @@ pub fn read_phases(
     let p = place_of(index, held, f, v);
     let end = p.end;
     let here = Cursor { at: p.start };
-    let lent = read_anchor(index, held, f, v, p, row);
-    match lent {
-        Reply::Refused(why) => Reply::Refused(why),
-        Reply::Accepted => {
-            let got = read_phased(&held[..end], here, f.samples, p.record_type, row, output);
-            named_reply(v, got)
-        }
-    }
+    read_anchor(index, held, f, v, p, row)?;
+    let got = read_phased(&held[..end], here, f.samples, p.record_type, row, output);
+    named_reply(v, got)
 }

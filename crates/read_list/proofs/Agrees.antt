@@ -1,7 +1,9 @@
 -- The list by position, its row cleared after a refusal, is the contract's `listed`.
 -- Assumes nothing.
+use Rattle.std.specs.Prelude.{Result, Ok, Err}
+use Rattle.std.specs.Result.{is_err}
 use mathlib.Core.Path.{◌≡◌, refl, sym, ap, ◌∙◌, subst}
-use mathlib.Core.Bool.{Bool, true}
+use mathlib.Core.Bool.{Bool, true, false}
 use Prim.Native.Nat.{ℕ, zero, suc, ◌≤◌, ◌<◌}
 use native.Mathlib.Omega.{arith}
 use mathlib.Core.List.{List, [], ◌∷◌, ◌++◌}
@@ -19,8 +21,6 @@ use Rattle.read_list.specs.Entries.{ListLeft, list_left, Lists}
 use Rattle.read_list.specs.Parts.{put_parts}
 use Rattle.read_list.specs.Listed.{may_hold, list_at, list_replied, listed}
 use Rattle.read_list.specs.declared.ListRule.{ListRule}
-use Rattle.read_list.specs.declared.ListStep.{ListStep}
-use Rattle.read_list.specs.declared.ListStep.TheVariants.{Listed, Refused}
 use Rattle.read_list.proofs.NumberLaws.{Known}
 use Rattle.read_list.proofs.EntriesAgree.{applied, cleared}
 use Rattle.read_list.proofs.ListAgrees.{list_agrees}
@@ -68,20 +68,29 @@ pub list_known : (l : List ℕ) (at n : ℕ) (held : ListRule) (row : List ℕ) 
 list_known l at n held row known a h k f t = go (put_parts held n l at row) (agrees l at n held row (λ i. (known i).fits) a h)
   where
     go : (o : ListLeft) → cleared n o ≡ listed held n l at row → Lists o
-    go (list_left (Listed c) new) e = tt
-    go (list_left (Refused why) new) e = subst Lists (sym e) (f t)
+    go (list_left (Ok c) new) e = tt
+    go (list_left (Err why) new) e = subst Lists (sym e) (f t)
 
 -- the ways out of `put_list`: r and `new` are what `put_parts` gave
-module _ (l : List ℕ) (at n : ℕ) (held : ListRule) (row : List ℕ) (r : ListStep) (new : List ℕ)
+module _ (l : List ℕ) (at n : ℕ) (held : ListRule) (row : List ℕ) (r : Result Cursor Refusal) (new : List ℕ)
     (e : list_left r new ≡ put_parts held n l at row) (known : Known l) (a : at ≤ length l) (h : n ≤ length row) where
   run : cleared n (list_left r new) ≡ listed held n l at row
   run = ap (cleared n) e ∙ agrees l at n held row (λ i. (known i).fits) a h
 
-  pub end_listed : (c : Cursor) → r ≡ Listed c → list_left (Listed c) new ≡ listed held n l at row
-  end_listed c q = rw q at run
+  module _ (b : Bool) (q : b ≡ is_err r) where
+    pub end_listed : b ≡ false → list_left r new ≡ listed held n l at row
+    end_listed z = go r run (sym q ∙ z)
+      where
+        go : (o : Result Cursor Refusal) → cleared n (list_left o new) ≡ listed held n l at row → is_err o ≡ false → list_left o new ≡ listed held n l at row
+        go (Ok c) g f = g
+        go (Err why) g f = cc
 
-  pub end_cleared : (why : Refusal) (last : List ℕ) → r ≡ Refused why → last ≡ replicate n 0 ++ drop n new
-      → list_left (Refused why) last ≡ listed held n l at row
-  end_cleared why last q f = rw f (rw q at run)
+    pub end_cleared : b ≡ true → (last : List ℕ) → last ≡ replicate n 0 ++ drop n new → list_left r last ≡ listed held n l at row
+    end_cleared z last d = rw d (go r run (sym q ∙ z))
+      where
+        go : (o : Result Cursor Refusal) → cleared n (list_left o new) ≡ listed held n l at row → is_err o ≡ true
+            → list_left o (replicate n 0 ++ drop n new) ≡ listed held n l at row
+        go (Ok c) g f = cc
+        go (Err why) g f = g
 
 pub ruleset list_laws = (end_listed, end_cleared)

@@ -1,5 +1,6 @@
 -- A turn of the loop of `check_entries`, and a short step.
 -- Assumes nothing.
+use Rattle.std.specs.Prelude.{Option, Some, Result, Ok, Err}
 use mathlib.Core.Path.{◌≡◌, refl, ◌∙◌}
 use Prim.Native.Nat.{ℕ, suc, ◌+◌, ◌-◌, ◌/◌, ◌≤◌, ◌<◌}
 use native.Mathlib.Omega.{arith}
@@ -10,18 +11,12 @@ use borrow.Author.Tests.{not-false}
 use Rattle.format.specs.declared.Refusal.{Refusal}
 use Rattle.base_cursor.specs.Steps.{short_at}
 use Rattle.base_cursor.specs.declared.Cursor.{Cursor}
-use Rattle.base_cursor.specs.declared.ShortStep.{ShortStep}
-use Rattle.base_cursor.specs.declared.ShortStep.TheVariants.{Short}
 use Rattle.read_list.specs.Entries.{value_at, allows, Against, moved, bump, check_entry, check_entries}
 use Rattle.read_list.specs.Room.{EntryReady, Room}
 use Rattle.read_list.specs.Walked.{Checking}
 use Rattle.read_list.specs.Runs.{AllOff}
 use Rattle.read_list.specs.declared.ListRule.{ListRule}
 use Rattle.read_list.specs.declared.State.{State}
-use Rattle.read_list.specs.declared.EntryStep.{EntryStep}
-use Rattle.read_list.specs.declared.EntryStep.TheVariants as entry
-use Rattle.read_list.specs.declared.ListStep.{ListStep}
-use Rattle.read_list.specs.declared.ListStep.TheVariants as list
 use Rattle.read_list.proofs.NumberLaws.{Known}
 use Rattle.read_list.proofs.EntryLaws.{against_sample, check_on, check_entry_on}
 use Rattle.read_list.proofs.RoomLaws.{Passed, check_one, ready}
@@ -32,10 +27,10 @@ module _ {l : List ℕ} {n vals : ℕ} {held : ListRule} {count : ℕ} {row : Li
   check_start r h = record { same = refl; room = r; against = h; fewer = omega arith; all = refl }
 
   module _ {first st : State} {more : ℕ} (w : Checking l n vals held count first row st more) where
-    abbrev whole : ListStep
+    abbrev whole : Result Cursor Refusal
     whole = check_entries count l n vals held first row
 
-    pub check_end : more ≤ 0 → list.Listed st.at ≡ whole
+    pub check_end : more ≤ 0 → Ok st.at ≡ whole
     unfolding check_entries
     check_end p = let e : 0 ≡ more = omega arith in rw (← e) at w.same
 
@@ -52,12 +47,12 @@ module _ {l : List ℕ} {n vals : ℕ} {held : ListRule} {count : ℕ} {row : Li
       opened : check_entries (suc (more - 1)) l n vals held st row ≡ whole
       opened = rw last_more w.same
 
-      module _ {r : EntryStep} (e : r ≡ check_entry l n vals held st row) where
-        pub check_stop : {why : Refusal} → r ≡ entry.Refused why → list.Refused why ≡ whole
+      module _ {r : Result State Refusal} (e : r ≡ check_entry l n vals held st row) where
+        pub check_stop : {why : Refusal} → r ≡ Err why → Err why ≡ whole
         unfolding check_entries
         check_stop q = rw (← e, q) at opened
 
-        module _ (known : Known l) {t : State} (q : r ≡ entry.On t) where
+        module _ (known : Known l) {t : State} (q : r ≡ Ok t) where
           one_more : Passed l n vals (more - 1) st (rw last_more w.room) t
           one_more = check_one l n vals (more - 1) st (rw last_more w.room) (λ i. (known i).fits) held row t (rw q at e)
 
@@ -93,7 +88,7 @@ module _ {l : List ℕ} {n vals : ℕ} {held : ListRule} {count : ℕ} {row : Li
         pub check_against : Against held (suc (st.last + step)) row
         check_against = against_sample held n (st.last + step) row w.against (omega arith)
 
-        pub check_short : Known l → (st.room ≡ 0 → ⊥) → {got : ShortStep} → got ≡ short_at l st.at.at → {next : Cursor} → got ≡ Short step next
+        pub check_short : Known l → (st.room ≡ 0 → ⊥) → {got : Option (ℕ × Cursor)} → got ≡ short_at l st.at.at → {next : Cursor} → got ≡ Some (step, next)
             → (step ≡ 0 → ⊥) → {value : ℕ} → value ≡ value_at l vals st.passed
             → {b : Bool} → b ≡ allows held (get_or row (st.last + step) 0) value → not b ≡ false
             → Checking l n vals held count first row (bump (moved step next st)) (more - 1)

@@ -1,5 +1,6 @@
 -- The entries by position are the format's entries.
 -- Assumes nothing.
+use Rattle.std.specs.Prelude.{Result, Ok, Err}
 use mathlib.Core.Path.{◌≡◌, refl, sym, ap, ◌∙◌}
 use Prim.Native.Nat.{ℕ, zero, suc, ◌+◌, ◌-◌, ◌*◌, ◌/◌, ◌≤◌, ◌<◌}
 use native.Mathlib.Omega.{arith}
@@ -25,15 +26,11 @@ use Rattle.base_cursor.specs.Steps.{cursor_at, before, varint_at}
 use Rattle.base_cursor.proofs.ByteLaws.{here}
 use Rattle.base_cursor.proofs.VarintLaws.{Read, was_read, was_refused}
 use Rattle.base_cursor.specs.declared.Cursor.{Cursor}
-use Rattle.base_cursor.specs.declared.VarintStep.{VarintStep}
-use Rattle.base_cursor.specs.declared.VarintStep.TheVariants as varint
 use Rattle.read_list.specs.Entries.{turn, value_at, allows, reach, take_head, take_step, put_value, go_on, put_entries}
 use Rattle.read_list.specs.Entries.{headed, moved, group_bytes, bump, ListLeft, list_left}
 use Rattle.read_list.specs.Listed.{may_hold}
 use Rattle.read_list.specs.declared.ListRule.{ListRule}
 use Rattle.read_list.specs.declared.State.{State}
-use Rattle.read_list.specs.declared.EntryStep.TheVariants as entry
-use Rattle.read_list.specs.declared.ListStep.TheVariants as list
 use Rattle.read_list.proofs.SampleLaws.{is_head, is_step, is_wrong, is_next}
 
 -- ---- the parts of a list as lists, by position
@@ -54,18 +51,18 @@ numbers_many (suc g) w l p = ap suc (numbers_many g w l (p + w))
 -- ---- what a reading does to a row, and a walk whose row is then cleared
 
 abbrev pub applied : ℕ → ℕ → List ℕ → Out (List Entry) → ListLeft
-applied end n row (ok es left) = list_left (list.Listed (before end left)) (apply es row)
-applied end n row (refused why) = list_left (list.Refused why) (replicate n 0 ++ drop n row)
+applied end n row (ok es left) = list_left (Ok (before end left)) (apply es row)
+applied end n row (refused why) = list_left (Err why) (replicate n 0 ++ drop n row)
 
 abbrev pub cleared : ℕ → ListLeft → ListLeft
-cleared n (list_left (list.Listed c) row) = list_left (list.Listed c) row
-cleared n (list_left (list.Refused why) row) = list_left (list.Refused why) (replicate n 0 ++ drop n row)
+cleared n (list_left (Ok c) row) = list_left (Ok c) row
+cleared n (list_left (Err why) row) = list_left (Err why) (replicate n 0 ++ drop n row)
 
 applied_cons : (end n : ℕ) (row : List ℕ) (s v : ℕ) (m : Out (List Entry)) → s < n
     → applied end n (set row s v) m ≡ applied end n row (map_out (◌∷◌ (record { sample = s; value = v })) m)
 applied_cons end n row s v (ok es left) h = refl
 applied_cons end n row s v (refused why) h =
-    ap (λ (d : List ℕ). list_left (list.Refused why) (replicate n 0 ++ d)) (drop-set-lt n row s v h)
+    ap (λ (d : List ℕ). list_left (Err why) (replicate n 0 ++ d)) (drop-set-lt n row s v h)
 
 module _ (l : List ℕ) (y : (i : ℕ) → get_or l i 0 < 256) (n : ℕ) (held : ListRule) (base : List ℕ) (vals he count : ℕ) where
   abbrev pub rule_of : Rule
@@ -108,7 +105,7 @@ module _ (l : List ℕ) (y : (i : ℕ) → get_or l i 0 < 256) (n : ℕ) (held :
       at17 = omega (arith, digits_length two (drop vals l) (t.passed + 1) m)
 
       last : (b : Bool) → lo ≤ t.last → t.last < n
-          → Same (go_on (pick b (turn (entry.On (bump t)) (with_value t work)) (turn (entry.Refused (refusal 17 (vals + t.passed / 4))) work)) go) work
+          → Same (go_on (pick b (turn (Ok (bump t)) (with_value t work)) (turn (Err (refusal 17 (vals + t.passed / 4))) work)) go) work
           (pick b (map_out (◌∷◌ (record { sample = t.last; value = value t })) next) (refuse 17 (vals + (count - suc (length (after_values m t))) / 4)))
       last true h g = ih h g ∙ applied_cons (length l) n work t.last (value t) next g
       last false h g = rw at17
@@ -163,7 +160,7 @@ module _ (l : List ℕ) (y : (i : ℕ) → get_or l i 0 < 256) (n : ℕ) (held :
   bytes_to from to = length (drop from l) - length (drop to l)
 
   -- a step, and what follows
-  step_agrees : (c m g acc : ℕ) (st : State) (work : List ℕ) (r : VarintStep) → varint_at l st.at.at ≡ r → st.at.at ≤ length l
+  step_agrees : (c m g acc : ℕ) (st : State) (work : List ℕ) (r : Result (ℕ × Cursor) Refusal) → varint_at l st.at.at ≡ r → st.at.at ≤ length l
       → st.passed + suc m ≡ count
       → ((j : ℕ) → st.last < j → j < n → get_or work j 0 ≡ get_or base j 1)
       → ((d : ℕ) (x : Cursor) → Read l st.at.at d x → let t = moved d x st in suc st.last ≤ t.last → t.last < n
@@ -174,15 +171,15 @@ module _ (l : List ℕ) (y : (i : ℕ) → get_or l i 0 < 256) (n : ℕ) (held :
       reads_entry (suc st.last) (place_of (length l) (drop st.at.at l)) t m
       (reads c g m (acc + (length (drop st.at.at l) - length left)) (bump t) left)))
   unfolding take_step put_value
-  step_agrees c m g acc st work (varint.Refused why) e i k later ih = rw (was_refused l st.at.at why (sym e))
-  step_agrees c m g acc st work (varint.Value d x) e i k later ih =
+  step_agrees c m g acc st work (Err why) e i k later ih = rw (was_refused l st.at.at why (sym e))
+  step_agrees c m g acc st work (Ok (d, x)) e i k later ih =
       let q : Read l st.at.at d x = was_read l st.at.at d x y i (sym e) in
       let t : State = moved d x st in
       rw (q.reads, here l st.at.at i)
       (entry_agrees (suc st.last) st.at.at t work m (their c g m (acc + bytes_to st.at.at x.at) (bump t)) (rest m) k
       (λ h f. later (st.last + d) h f) (λ h f. ih d x q h f))
 
-  size_refused : (why : Refusal) (work : List ℕ) (m : ℕ) → Same (go_on (put_value l vals held (entry.Refused why) work) (rest m)) work (refused why)
+  size_refused : (why : Refusal) (work : List ℕ) (m : ℕ) → Same (go_on (put_value l vals held (Err why) work) (rest m)) work (refused why)
   unfolding put_value
   size_refused why work m = refl
 

@@ -1,5 +1,6 @@
 -- What each way out of `may_hold`, `check_value`, `check_entry` and `put_entry` says, from the tests that led there.
 -- Assumes nothing.
+use Rattle.std.specs.Prelude.{Result, Ok, Err}
 use mathlib.Core.Path.{◌≡◌}
 use Prim.Native.Nat.{ℕ, suc, ◌+◌, ◌/◌, ◌≤◌, ◌<◌}
 use native.Mathlib.Omega.{arith}
@@ -18,8 +19,6 @@ use Rattle.read_list.specs.Room.{EntryReady}
 use Rattle.read_list.specs.declared.ListRule.{ListRule}
 use Rattle.read_list.specs.declared.ListRule.TheVariants.{OffPair, OffRow}
 use Rattle.read_list.specs.declared.State.{State}
-use Rattle.read_list.specs.declared.EntryStep.{EntryStep}
-use Rattle.read_list.specs.declared.EntryStep.TheVariants.{On, Refused}
 use Rattle.read_list.proofs.SampleLaws.{sample_below}
 
 module _ (held : ListRule) (old value : ℕ) where
@@ -53,20 +52,20 @@ module _ (l : List ℕ) (vals : ℕ) (held : ListRule) (st : State) (row : List 
   allowed : (t : Bool) → b ≡ t → allows held (get_or row st.last 0) (value_at l vals st.passed) ≡ t
   allowed t q = rw v at (rw e at q)
 
-  pub check_on : b ≡ true → On (bump st) ≡ check_value l vals held (On st) row
+  pub check_on : b ≡ true → Ok (bump st) ≡ check_value l vals held (Ok st) row
   unfolding check_value
   check_on t = simp (allowed true t)
 
-  pub put_on : b ≡ true → turn (On (bump st)) (set row st.last value) ≡ put_value l vals held (On st) row
+  pub put_on : b ≡ true → turn (Ok (bump st)) (set row st.last value) ≡ put_value l vals held (Ok st) row
   unfolding put_value
   put_on t = rw v (simp (allowed true t))
 
   module _ (why : Refusal) (q : why ≡ refusal 17 (vals + st.passed / 4)) where
-    pub check_refused : b ≡ false → Refused why ≡ check_value l vals held (On st) row
+    pub check_refused : b ≡ false → Err why ≡ check_value l vals held (Ok st) row
     unfolding check_value
     check_refused t = rw q (simp (allowed false t))
 
-    pub put_refused : b ≡ false → turn (Refused why) row ≡ put_value l vals held (On st) row
+    pub put_refused : b ≡ false → turn (Err why) row ≡ put_value l vals held (Ok st) row
     unfolding put_value
     put_refused t = rw q (simp (allowed false t))
 
@@ -74,26 +73,26 @@ pub ruleset value_laws = (check_on, check_refused)
 
 -- ---- an entry: `r` is what its sample was read as
 
-module _ (l : List ℕ) (n : ℕ) (st : State) (r : EntryStep) (e : r ≡ next_sample l n st) where
+module _ (l : List ℕ) (n : ℕ) (st : State) (r : Result State Refusal) (e : r ≡ next_sample l n st) where
   module _ (vals : ℕ) (held : ListRule) (row : List ℕ) where
-    pub check_entry_refused : (why : Refusal) → r ≡ Refused why → Refused why ≡ check_entry l n vals held st row
+    pub check_entry_refused : (why : Refusal) → r ≡ Err why → Err why ≡ check_entry l n vals held st row
     unfolding check_value
     check_entry_refused why q = rw (← e, q)
 
-    pub put_entry_refused : (why : Refusal) → r ≡ Refused why → turn (Refused why) row ≡ put_entry l n vals held st row
+    pub put_entry_refused : (why : Refusal) → r ≡ Err why → turn (Err why) row ≡ put_entry l n vals held st row
     unfolding put_value
     put_entry_refused why q = rw (← e, q)
 
-  module _ (t : State) (q : r ≡ On t) where
+  module _ (t : State) (q : r ≡ Ok t) where
     module _ (vals : ℕ) (held : ListRule) (row : List ℕ) where
-      pub check_entry_on : (o : EntryStep) → o ≡ check_value l vals held (On t) row → o ≡ check_entry l n vals held st row
+      pub check_entry_on : (o : Result State Refusal) → o ≡ check_value l vals held (Ok t) row → o ≡ check_entry l n vals held st row
       check_entry_on o h = rw (← e, q) h
 
       module _ (value : ℕ) (v : value ≡ value_at l vals t.passed) (b : Bool) (f : b ≡ allows held (get_or row t.last 0) value) where
-        pub put_entry_on : b ≡ true → turn (On (bump t)) (set row t.last value) ≡ put_entry l n vals held st row
+        pub put_entry_on : b ≡ true → turn (Ok (bump t)) (set row t.last value) ≡ put_entry l n vals held st row
         put_entry_on h = rw (← e, q) (put_on l vals held t row value v b f h)
 
-        pub put_entry_stop : b ≡ false → (why : Refusal) → why ≡ refusal 17 (vals + t.passed / 4) → turn (Refused why) row ≡ put_entry l n vals held st row
+        pub put_entry_stop : b ≡ false → (why : Refusal) → why ≡ refusal 17 (vals + t.passed / 4) → turn (Err why) row ≡ put_entry l n vals held st row
         put_entry_stop h why g = rw (← e, q) (put_refused l vals held t row value v b f why g h)
 
     pub sample_against : (held : ListRule) (row : List ℕ) → Against held n row → Against held (suc t.last) row

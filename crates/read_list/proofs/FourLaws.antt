@@ -10,7 +10,6 @@ use lib.ListN.{get_or, length, set, length-set}
 use lib.Seq.{get_or-drop}
 use mir.Syntax.{w64}
 use mir.Val.{Fits}
-use borrow.Author.Count.{below_more}
 use Rattle.format.proofs.Rules.{split, unsaid}
 use Rattle.head_index.specs.NumbersAt.{digit_at}
 use Rattle.read_packed.specs.Arrays.{number_in}
@@ -25,31 +24,6 @@ use Rattle.read_list.proofs.NumberLaws.{Known}
 use Rattle.read_list.proofs.KnownWalks.{Walks, walks_turn}
 
 -- ---- whether there are four
-
--- of the bytes passed
-pub record Looked (l : List ℕ) (at j : ℕ) : Type 0 where
-  pub there : at + 4 ≤ length l
-  pub inside : j ≤ 4
-  pub each : (k : ℕ) → k < j → get_or l (at + k) 0 < 128
-
-pub look_start : (l : List ℕ) (at : ℕ) → at + 4 ≤ length l → Looked l at 0
-look_start l at h = record { there = h; inside = omega arith; each = λ k p. absurd (omega arith) }
-
-module _ {l : List ℕ} {at j : ℕ} (g : Looked l at j) where
-  pub look_inside : j < 4 → at + j < length l
-  look_inside h = omega (arith, g.there)
-
-  pub look_turn : j < 4 → get_or l (at + j) 0 < 128 → Looked l at (j + 1)
-  look_turn h b = record {
-    there = g.there;
-    inside = omega arith;
-    each = below_more (λ (k : ℕ). get_or l (at + k) 0 < 128) j g.each b;
-  }
-
-  pub look_end : 4 ≤ j → Single l at 4
-  look_end h = record { each = λ k p. g.each k (omega arith) }
-
-pub ruleset look_laws = (look_start, look_inside, look_turn, look_end, unsaid)
 
 pub four_found : (l : List ℕ) (at passed left : ℕ) {b : Bool} → passed % 4 ≡ 0 → 4 ≤ left → 4 ≤ length l - at → Fits w64 (length l)
     → (b ≡ true → Single l at 4) → b ≡ true → FourNext l at passed left

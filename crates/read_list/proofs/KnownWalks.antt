@@ -1,5 +1,6 @@
 -- A turn of the loop of `put_known_steps`: the list was accepted before, so what `put_short_steps` tests of a step and its value holds.
 -- Assumes nothing.
+use Rattle.std.specs.Prelude.{Option, Some, Ok, Err}
 use mathlib.Core.Path.{◌≡◌, refl, sym, ◌∙◌, subst}
 use Prim.Native.Nat.{ℕ, suc, ◌+◌, ◌-◌, ◌/◌, ◌≤◌, ◌<◌}
 use native.Mathlib.Omega.{arith}
@@ -14,9 +15,6 @@ use Rattle.format.specs.declared.Refusal.{Refusal}
 use Rattle.format.specs.Base.{pick}
 use Rattle.base_cursor.specs.Steps.{varint_at, short_at}
 use Rattle.base_cursor.specs.declared.Cursor.{Cursor}
-use Rattle.base_cursor.specs.declared.ShortStep.{ShortStep}
-use Rattle.base_cursor.specs.declared.ShortStep.TheVariants.{Short}
-use Rattle.base_cursor.specs.declared.VarintStep.TheVariants as varint
 use Rattle.base_cursor.proofs.ShortLaws.{short_reads}
 use Rattle.read_list.specs.Entries.{value_at, allows, moved, take_step, bump, turn, put_value, ListLeft, Lists, go_on, put_entries}
 use Rattle.read_list.specs.Room.{Room}
@@ -24,7 +22,6 @@ use Rattle.read_list.specs.Walked.{Putting, Accepted, PutKnown}
 use Rattle.read_list.specs.Runs.{past}
 use Rattle.read_list.specs.declared.ListRule.{ListRule}
 use Rattle.read_list.specs.declared.State.{State}
-use Rattle.read_list.specs.declared.EntryStep.TheVariants as entry
 use Rattle.read_list.proofs.NumberLaws.{Known}
 use Rattle.read_list.proofs.SampleLaws.{is_step}
 use Rattle.read_list.proofs.ShortWalks.{ShortWalk, walk_start, walk_end, walk_sample, walk_turn}
@@ -33,14 +30,14 @@ use Rattle.read_list.proofs.ShortWalks.{ShortWalk, walk_start, walk_end, walk_sa
 
 module _ (l : List ℕ) (n vals : ℕ) (held : ListRule) (row : List ℕ) (rest : State → List ℕ → ListLeft) where
   -- its value
-  allowed : (st : State) (new : List ℕ) (why : Refusal) (b : Bool) → Lists (go_on (pick b (turn (entry.On (bump st)) new) (turn (entry.Refused why) row)) rest)
+  allowed : (st : State) (new : List ℕ) (why : Refusal) (b : Bool) → Lists (go_on (pick b (turn (Ok (bump st)) new) (turn (Err why) row)) rest)
       → b ≡ true
   allowed st new why true h = refl
   allowed st new why false h = absurd h
 
   -- its sample and its value
   reached : (st : State) (why why₁ : Refusal) (b c : Bool)
-      → Lists (go_on (put_value l vals held (pick b (pick c (entry.On st) (entry.Refused why)) (entry.Refused why₁)) row) rest)
+      → Lists (go_on (put_value l vals held (pick b (pick c (Ok st) (Err why)) (Err why₁)) row) rest)
       → (b ≡ true) × (c ≡ true) × (allows held (get_or row st.last 0) (value_at l vals st.passed) ≡ true)
   unfolding put_value
   reached st why why₁ true true h = (refl, refl, allowed st _ _ (allows held (get_or row st.last 0) (value_at l vals st.passed)) h)
@@ -53,7 +50,7 @@ pub record StepKnown (l : List ℕ) (n vals : ℕ) (held : ListRule) (row : List
   pub allows_it : allows held (get_or row (st.last + step) 0) (value_at l vals st.passed) ≡ true
 
 step_known : (l : List ℕ) (n vals : ℕ) (held : ListRule) (row : List ℕ) (st : State) (more : ℕ) → Lists (put_entries (suc more) l n vals held st row)
-    → (st.room ≡ 0 → ⊥) → (step : ℕ) (next : Cursor) → varint_at l st.at.at ≡ varint.Value step next → StepKnown l n vals held row st step
+    → (st.room ≡ 0 → ⊥) → (step : ℕ) (next : Cursor) → varint_at l st.at.at ≡ Ok (step, next) → StepKnown l n vals held row st step
 unfolding put_entries take_step
 step_known l n vals held row st more h z step next v =
     let there = reached l n vals held row _ (moved step next st) _ _ (leb (suc st.last) (st.last + step)) (ltb (st.last + step) n)
@@ -68,7 +65,7 @@ step_known l n vals held row st more h z step next v =
 
 module _ {l : List ℕ} {n vals : ℕ} {held : ListRule} {count : ℕ} {first : State} {least : ℕ} {row₀ row : List ℕ} {here : Cursor} {last done : ℕ}
     (w : ShortWalk l n vals held count first least row₀ row here last done) (a : Lists (put_entries count l n vals held first row₀)) (p : done < least)
-    {got : ShortStep} (e : got ≡ short_at l here.at) {step : ℕ} {next : Cursor} (q : got ≡ Short step next) where
+    {got : Option (ℕ × Cursor)} (e : got ≡ short_at l here.at) {step : ℕ} {next : Cursor} (q : got ≡ Some (step, next)) where
   known_now : StepKnown l n vals held row (past first done last here.at) step
   known_now =
       let more : suc (count - done - 1) ≡ count - done = omega (arith, w.fewer) in
@@ -111,8 +108,8 @@ module _ {l : List ℕ} {n vals count : ℕ} {first : State} {least : ℕ} {row�
     pub walks_value : vals + (first.passed + done) / 4 < length l
     walks_value = omega (arith, w.values, w.fewer)
 
-    module _ (b : Accepted l n vals count first row₀) {got : ShortStep} (e : got ≡ short_at l here.at) {step : ℕ} {next : Cursor}
-        (q : got ≡ Short step next) where
+    module _ (b : Accepted l n vals count first row₀) {got : Option (ℕ × Cursor)} (e : got ≡ short_at l here.at) {step : ℕ} {next : Cursor}
+        (q : got ≡ Some (step, next)) where
       near : step < n - last
       near = (known_now (w.goes b.held b.lists) b.lists p e q).near
 

@@ -1,5 +1,7 @@
 -- The whole list by position is the format's list.
 -- Assumes nothing.
+use Rattle.std.specs.Prelude.{Result, Ok, Err}
+use Rattle.format.specs.declared.Refusal.{Refusal}
 use mathlib.Core.Path.{◌≡◌, refl, sym, ap, ◌∙◌}
 use Prim.Native.Nat.{ℕ, zero, suc, ◌+◌, ◌-◌, ◌*◌, ◌≤◌, ◌<◌}
 use native.Mathlib.Omega.{arith}
@@ -23,16 +25,11 @@ use Rattle.base_cursor.specs.Steps.{cursor_at, varint_at}
 use Rattle.base_cursor.proofs.ByteLaws.{here}
 use Rattle.base_cursor.proofs.VarintLaws.{Read, was_read, was_refused}
 use Rattle.base_cursor.specs.declared.Cursor.{Cursor}
-use Rattle.base_cursor.specs.declared.VarintStep.{VarintStep}
-use Rattle.base_cursor.specs.declared.VarintStep.TheVariants.{Value, Refused}
 use Rattle.read_list.specs.Entries.{value_at, put_entries, ListLeft, list_left, bump}
 use Rattle.read_list.specs.Parts.{count_of, sizes_at, values_at, steps_at, first_at, lay_out, laid_out, counted_out, put_parts}
 use Rattle.read_list.specs.Listed.{may_hold}
 use Rattle.read_list.specs.declared.ListRule.{ListRule}
 use Rattle.read_list.specs.declared.State.{State}
-use Rattle.read_list.specs.declared.PartsStep.{PartsStep}
-use Rattle.read_list.specs.declared.ListStep.{ListStep}
-use Rattle.read_list.specs.declared.ListStep.TheVariants.{Listed}
 use Rattle.read_list.proofs.EntriesAgree.{numbers_of, values_of, applied, cleared, head_of, head_agrees, walk_agrees, parts}
 use Rattle.read_list.proofs.SampleLaws.{is_head, is_first}
 use Rattle.read_list.proofs.FitLaws.{row_fits, row_short, bytes_fits, bytes_short}
@@ -46,13 +43,13 @@ module _ (l : List ℕ) (y : (i : ℕ) → get_or l i 0 < 256) (n : ℕ) (held :
   abbrev Same : ListLeft → Out (List Entry) → Type 0
   Same o m = cleared n o ≡ applied (length l) n work m
 
-  abbrev stop : ListStep → ListLeft
+  abbrev stop : Result Cursor Refusal → ListLeft
   stop r = list_left r work
 
   abbrev entries : ℕ → ℕ → State → ListLeft
   entries m vals st = put_entries m l n vals held st work
 
-  abbrev laid : PartsStep → ℕ → ListLeft
+  abbrev laid : Result (ℕ × State) Refusal → ℕ → ListLeft
   laid d m = laid_out stop (entries m) d
 
   -- the first group begins with no size byte before it
@@ -146,17 +143,17 @@ module _ (l : List ℕ) (y : (i : ℕ) → get_or l i 0 < 256) (n : ℕ) (held :
         (λ h. rw (body_short h) (lay_short h))
 
   none : (m : ℕ) (c : Cursor) → m ≡ 0 → c.at ≤ length l
-      → Same (pick (eqb m 0) (list_left (Listed c) work) (laid (lay_out l n m c.at) m))
+      → Same (pick (eqb m 0) (list_left (Ok c) work) (laid (lay_out l n m c.at) m))
       (read_parts asked (number_width n) (length l) m (drop c.at l))
   unfolding read_parts read_numbers read_bytes read_packed_after read_first
   none zero c z h = let e : length l - length (drop c.at l) ≡ c.at = here l c.at h in rw e
   none (suc m) c z h = absurd (omega arith)
 
-  list_by : (at : ℕ) (r : VarintStep) → varint_at l at ≡ r → at ≤ length l
+  list_by : (at : ℕ) (r : Result (ℕ × Cursor) Refusal) → varint_at l at ≡ r → at ≤ length l
       → Same (counted_out stop entries l n (count_of r n at)) (read_list asked (number_width n) (length l) (drop at l))
   unfolding count_of read_list
-  list_by at (Refused why) e i = rw (was_refused l at why (sym e))
-  list_by at (Value m c) e i =
+  list_by at (Err why) e i = rw (was_refused l at why (sym e))
+  list_by at (Ok (m, c)) e i =
       let q : Read l at m c = was_read l at m c y i (sym e) in
       rw (q.reads, here l at i)
       (split m n

@@ -1,5 +1,6 @@
 -- A turn of the loop of `put_entries`, and a short step.
 -- Assumes nothing.
+use Rattle.std.specs.Prelude.{Option, Some, Result, Ok, Err}
 use mathlib.Core.Path.{◌≡◌, refl, sym, ◌∙◌, subst}
 use Prim.Native.Nat.{ℕ, suc, ◌+◌, ◌-◌, ◌/◌, ◌≤◌, ◌<◌}
 use native.Mathlib.Omega.{arith}
@@ -10,25 +11,20 @@ use borrow.Author.Tests.{not-false}
 use Rattle.format.specs.declared.Refusal.{Refusal}
 use Rattle.base_cursor.specs.Steps.{varint_at, short_at}
 use Rattle.base_cursor.specs.declared.Cursor.{Cursor}
-use Rattle.base_cursor.specs.declared.ShortStep.{ShortStep}
-use Rattle.base_cursor.specs.declared.ShortStep.TheVariants.{Short}
 use Rattle.base_cursor.proofs.ShortLaws.{short_reads}
 use Rattle.read_list.specs.Entries.{value_at, allows, Against, moved, next_sample, bump, turn, put_entry, put_entries, ListLeft, list_left, Lists}
 use Rattle.read_list.specs.Room.{EntryReady, Room}
 use Rattle.read_list.specs.Walked.{Putting}
 use Rattle.read_list.specs.declared.ListRule.{ListRule}
 use Rattle.read_list.specs.declared.State.{State}
-use Rattle.read_list.specs.declared.EntryStep.{EntryStep}
-use Rattle.read_list.specs.declared.EntryStep.TheVariants as entry
-use Rattle.read_list.specs.declared.ListStep.TheVariants as list
 use Rattle.read_list.proofs.NumberLaws.{Known}
 use Rattle.read_list.proofs.SampleLaws.{step_on, is_step}
 use Rattle.read_list.proofs.EntryLaws.{against_row, put_entry_on}
 use Rattle.read_list.proofs.RoomLaws.{Passed, put_one, ready}
 
 -- a short step is the next sample
-pub short_sample : (l : List ℕ) (n : ℕ) (st : State) → st.last < n → (st.room ≡ 0 → ⊥) → (got : ShortStep) → got ≡ short_at l st.at.at
-    → (step : ℕ) (next : Cursor) → got ≡ Short step next → (step ≡ 0 → ⊥) → step < n - st.last → entry.On (moved step next st) ≡ next_sample l n st
+pub short_sample : (l : List ℕ) (n : ℕ) (st : State) → st.last < n → (st.room ≡ 0 → ⊥) → (got : Option (ℕ × Cursor)) → got ≡ short_at l st.at.at
+    → (step : ℕ) (next : Cursor) → got ≡ Some (step, next) → (step ≡ 0 → ⊥) → step < n - st.last → Ok (moved step next st) ≡ next_sample l n st
 short_sample l n st b z got e step next q k h =
     step_on l n st (varint_at l st.at.at) refl step next (sym (short_reads l st.at.at got e step next q)) b k h ∙ sym (is_step l n st z)
 
@@ -45,7 +41,7 @@ module _ {l : List ℕ} {n vals : ℕ} {held : ListRule} {count : ℕ} where
     abbrev whole : ListLeft
     whole = put_entries count l n vals held first row₀
 
-    pub put_end : more ≤ 0 → list_left (list.Listed st.at) row ≡ whole
+    pub put_end : more ≤ 0 → list_left (Ok st.at) row ≡ whole
     unfolding put_entries
     put_end p = let e : 0 ≡ more = omega arith in rw (← e) at w.same
 
@@ -62,12 +58,12 @@ module _ {l : List ℕ} {n vals : ℕ} {held : ListRule} {count : ℕ} where
       opened : put_entries (suc (more - 1)) l n vals held st row ≡ whole
       opened = rw last_more w.same
 
-      module _ {r : EntryStep} {last : List ℕ} (e : turn r last ≡ put_entry l n vals held st row) where
-        pub put_stop : {why : Refusal} → r ≡ entry.Refused why → list_left (list.Refused why) last ≡ whole
+      module _ {r : Result State Refusal} {last : List ℕ} (e : turn r last ≡ put_entry l n vals held st row) where
+        pub put_stop : {why : Refusal} → r ≡ Err why → list_left (Err why) last ≡ whole
         unfolding put_entries
         put_stop q = rw (← e, q) at opened
 
-        module _ (known : Known l) {t : State} (q : r ≡ entry.On t) where
+        module _ (known : Known l) {t : State} (q : r ≡ Ok t) where
           one_more : Passed l n vals (more - 1) st (rw last_more w.room) t
           one_more = put_one l n vals (more - 1) st (rw last_more w.room) (λ i. (known i).fits) held row t last (rw q at e)
 
@@ -112,7 +108,7 @@ module _ {l : List ℕ} {n vals : ℕ} {held : ListRule} {count : ℕ} where
         pub put_against : Against held (suc (st.last + step)) row
         put_against = against_row held n (st.last + step) row w.holds (omega arith)
 
-        pub put_short : Known l → (st.room ≡ 0 → ⊥) → {got : ShortStep} → got ≡ short_at l st.at.at → {next : Cursor} → got ≡ Short step next
+        pub put_short : Known l → (st.room ≡ 0 → ⊥) → {got : Option (ℕ × Cursor)} → got ≡ short_at l st.at.at → {next : Cursor} → got ≡ Some (step, next)
             → (step ≡ 0 → ⊥) → {value : ℕ} → value ≡ value_at l vals st.passed
             → {b : Bool} → b ≡ allows held (get_or row (st.last + step) 0) value → not b ≡ false
             → Putting l n vals held count first row₀ (set row (st.last + step) value) (bump (moved step next st)) (more - 1)

@@ -1,5 +1,7 @@
 -- The room that is left after an entry.
 -- Assumes nothing.
+use Rattle.std.specs.Prelude.{Result, Ok, Err}
+use Rattle.format.specs.declared.Refusal.{Refusal}
 use mathlib.Core.Path.{◌≡◌, refl, sym, subst}
 use Prim.Native.Nat.{ℕ, suc, ◌+◌, ◌-◌, ◌*◌, ◌/◌, ◌<◌}
 use native.Mathlib.Omega.{arith}
@@ -13,15 +15,11 @@ use Rattle.format.specs.Difflist.{number_width}
 use Rattle.base_cursor.specs.Steps.{cursor_at, varint_at}
 use Rattle.base_cursor.specs.declared.Cursor.{Cursor}
 use Rattle.base_cursor.proofs.VarintLaws.{Read, was_read}
-use Rattle.base_cursor.specs.declared.VarintStep.{VarintStep}
-use Rattle.base_cursor.specs.declared.VarintStep.TheVariants as varint
 use Rattle.read_list.specs.Entries.{value_at, allows, headed, moved, take_head, take_step, group_bytes, next_head, next_sample}
 use Rattle.read_list.specs.Entries.{bump, Turn, turn, put_value, put_entry, check_value, check_entry}
 use Rattle.read_list.specs.Room.{Room, EntryReady}
 use Rattle.read_list.specs.declared.ListRule.{ListRule}
 use Rattle.read_list.specs.declared.State.{State}
-use Rattle.read_list.specs.declared.EntryStep.{EntryStep}
-use Rattle.read_list.specs.declared.EntryStep.TheVariants.{On, Refused}
 use Rattle.read_list.proofs.SampleLaws.{Goes, by_goes, by_reach}
 
 -- a head more
@@ -72,11 +70,11 @@ module _ (l : List ℕ) (n vals more : ℕ) (st : State) (r : Room l n vals (suc
         one = refl;
       })
 
-  room_step : ((i : ℕ) → get_or l i 0 < 256) → (m : VarintStep) → varint_at l st.at.at ≡ m → (st.room ≡ 0 → ⊥) → (st.passed ≡ 0 → ⊥)
+  room_step : ((i : ℕ) → get_or l i 0 < 256) → (m : Result (ℕ × Cursor) Refusal) → varint_at l st.at.at ≡ m → (st.room ≡ 0 → ⊥) → (st.passed ≡ 0 → ⊥)
       → Goes Next (take_step m n st)
   unfolding take_step
-  room_step y (varint.Refused why) e z k = tt
-  room_step y (varint.Value d c) e z k =
+  room_step y (Err why) e z k = tt
+  room_step y (Ok (d, c)) e z k =
       by_reach Next n (suc st.last) st.at.at (moved d c st) (λ a b.
       let f : (suc more + (63 - st.room)) / 64 ≡ (more + (63 - (st.room - 1))) / 64 = omega (arith, r.group) in
       let u : 1 - st.passed ≡ 0 = omega arith in
@@ -114,26 +112,26 @@ module _ (l : List ℕ) (n vals more : ℕ) (st : State) (r : Room l n vals (suc
       room_step y (varint_at l st.at.at) refl z (λ k. z (r.begun k)))
 
   -- and after the entry, checked or put
-  room_check : (held : ListRule) (row : List ℕ) (s : EntryStep) → Goes Next s → Goes Passed (check_value l vals held s row)
+  room_check : (held : ListRule) (row : List ℕ) (s : Result State Refusal) → Goes Next s → Goes Passed (check_value l vals held s row)
   unfolding check_value
-  room_check held row (Refused why) g = tt
-  room_check held row (On t) g = by_test (Goes Passed) (allows held (get_or row t.last 0) (value_at l vals t.passed)) (λ a. g) (λ a. tt)
+  room_check held row (Err why) g = tt
+  room_check held row (Ok t) g = by_test (Goes Passed) (allows held (get_or row t.last 0) (value_at l vals t.passed)) (λ a. g) (λ a. tt)
 
-  pub check_one : ((i : ℕ) → get_or l i 0 < 256) → (held : ListRule) (row : List ℕ) (t : State) → On t ≡ check_entry l n vals held st row → Passed t
+  pub check_one : ((i : ℕ) → get_or l i 0 < 256) → (held : ListRule) (row : List ℕ) (t : State) → Ok t ≡ check_entry l n vals held st row → Passed t
   check_one y held row t e = subst (Goes Passed) (sym e) (room_check held row (next_sample l n st) (room_sample y))
 
-  pub checked_room : ((i : ℕ) → get_or l i 0 < 256) → (held : ListRule) (row : List ℕ) (t : State) → On t ≡ check_entry l n vals held st row
+  pub checked_room : ((i : ℕ) → get_or l i 0 < 256) → (held : ListRule) (row : List ℕ) (t : State) → Ok t ≡ check_entry l n vals held st row
       → Room l n vals more t
   checked_room y held row t e = (check_one y held row t e).room
 
   abbrev Turned : Turn → Type 0
   Turned (turn x last) = Goes Passed x
 
-  room_put : (held : ListRule) (row : List ℕ) (s : EntryStep) → Goes Next s → Turned (put_value l vals held s row)
+  room_put : (held : ListRule) (row : List ℕ) (s : Result State Refusal) → Goes Next s → Turned (put_value l vals held s row)
   unfolding put_value
-  room_put held row (Refused why) g = tt
-  room_put held row (On t) g = by_test Turned (allows held (get_or row t.last 0) (value_at l vals t.passed)) (λ a. g) (λ a. tt)
+  room_put held row (Err why) g = tt
+  room_put held row (Ok t) g = by_test Turned (allows held (get_or row t.last 0) (value_at l vals t.passed)) (λ a. g) (λ a. tt)
 
   pub put_one : ((i : ℕ) → get_or l i 0 < 256) → (held : ListRule) (row : List ℕ) (t : State) (last : List ℕ)
-      → turn (On t) last ≡ put_entry l n vals held st row → Passed t
+      → turn (Ok t) last ≡ put_entry l n vals held st row → Passed t
   put_one y held row t last e = subst Turned (sym e) (room_put held row (next_sample l n st) (room_sample y))

@@ -1,4 +1,4 @@
--- A run: the flat sums of its steps, and what each way out of `run_of` says.
+-- A run: the flat sums of its steps, and what is read of it.
 -- Assumes nothing.
 use mathlib.Core.Path.{◌≡◌, refl}
 use Prim.Native.Nat.{ℕ, suc, ◌+◌, ◌-◌, ◌*◌, ◌/◌, ◌%◌, ◌≤◌, ◌<◌}
@@ -10,8 +10,7 @@ use mir.Syntax.{w8, w16}
 use mir.Val.{Fits}
 use Rattle.format.proofs.Rules.{split}
 use Rattle.read_list.specs.Room.{Room}
-use Rattle.read_list.specs.Runs.{one, two, Steps, none, further, InPlace, HighPart, RunReady, RunFrom, no_run}
-use Rattle.read_list.specs.declared.StepRun.{StepRun}
+use Rattle.read_list.specs.Runs.{one, two, Steps, none, further, InPlace, HighPart, RunReady}
 use Rattle.read_list.specs.declared.State.{State}
 use Rattle.read_list.proofs.NumberLaws.{Known}
 
@@ -56,11 +55,7 @@ module _ {l : List ℕ} {at count sum most i : ℕ} (g : Summing l at count sum 
   pub sum_end : count ≤ i → most ≡ 0 → Steps l at count (at + count) sum
   sum_end h z = let e : i ≡ count = omega (arith, g.inside) in rw e at (g.fine z)
 
--- a sum of 0 says nothing
-pub sum_none : (l : List ℕ) (at end count : ℕ) → (◌≡◌ {A = ℕ} 0 0 → ⊥) → Steps l at count end 0
-sum_none l at end count z = absurd (z refl)
-
-pub ruleset sum_laws = (sum_start, sum_fits, sum_turn, sum_end, sum_none)
+pub ruleset sum_laws = (sum_start, sum_fits, sum_turn, sum_end)
 
 -- ---- the sum of steps of a byte or two
 
@@ -170,42 +165,7 @@ module _ {l : List ℕ} {at size low high long most i : ℕ} (g : Mixing l at si
       ended (whole p s) = s
       ended (half p q r s t) = absurd (omega arith)
 
-pub ruleset mix_laws = (mix_start, mix_low_fits, mix_high_fits, mix_long_fits, mix_turn, mix_end, sum_none)
-
--- ---- either
-
-module _ (l : List ℕ) (at size count : ℕ) {sum : ℕ} where
-  pub sum_alone : size ≡ count → ((sum ≡ 0 → ⊥) → Steps l at count (at + count) sum) → (sum ≡ 0 → ⊥) → Steps l at count (at + size) sum
-  sum_alone e f z = rw e (f z)
-
-pub ruleset either_laws = (sum_alone, sum_none)
-
--- ---- the run
-
-module _ (l : List ℕ) (n : ℕ) (st : State) (more : ℕ) (r : RunReady l n st more) where
-  pub run_none : (run : StepRun) → run ≡ no_run → RunFrom l n st more run
-  run_none run e =
-      let a : st.at.at + 0 ≡ st.at.at = omega arith in
-      rw e (record {
-        steps = rw a none;
-        inside = omega (arith, r.inside);
-        group = omega arith;
-        fewer = omega arith;
-        below = omega (arith, r.below);
-      })
-
-  pub run_found : {count size sum : ℕ} → count ≤ st.room → count ≤ more → size ≤ length l - st.at.at
-      → ((sum ≡ 0 → ⊥) → Steps l st.at.at count (st.at.at + size) sum) → (sum ≡ 0 → ⊥) → sum < n - st.last
-      → RunFrom l n st more (record { count = count; size = size; sum = sum })
-  run_found a b c f z d = record {
-    steps = f z;
-    inside = omega (arith, r.inside);
-    group = a;
-    fewer = b;
-    below = omega (arith, r.below);
-  }
-
-pub ruleset run_laws = (run_none, run_found)
+pub ruleset mix_laws = (mix_start, mix_low_fits, mix_high_fits, mix_long_fits, mix_turn, mix_end)
 
 -- what `run_of` reads is there
 pub run_ready : {l : List ℕ} {n vals more : ℕ} {st : State} → Room l n vals more st → RunReady l n st more

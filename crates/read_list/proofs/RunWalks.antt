@@ -1,14 +1,13 @@
 -- The walk over a run that is checked, at once.
 -- Assumes nothing.
+use Rattle.std.specs.Prelude.{Some}
 use mathlib.Core.Path.{◌≡◌, refl, sym, ◌∙◌}
 use Prim.Native.Nat.{ℕ, zero, suc, ◌+◌, ◌-◌, ◌/◌, ◌≤◌, ◌<◌}
 use native.Mathlib.Omega.{arith}
-use mathlib.Core.Bool.{Bool, true, false, not}
+use mathlib.Core.Bool.{Bool, true}
 use mathlib.Core.List.{List}
 use lib.ListN.{get_or}
-use borrow.Author.Tests.{not-false}
 use Rattle.base_cursor.specs.Steps.{cursor_at, short_at}
-use Rattle.base_cursor.specs.declared.ShortStep.TheVariants.{Short}
 use Rattle.base_cursor.proofs.ShortLaws.{short_one, short_two}
 use Rattle.read_list.specs.Entries.{value_at, allows, Against}
 use Rattle.read_list.specs.Room.{Room}
@@ -21,7 +20,7 @@ use Rattle.read_list.proofs.NumberLaws.{Known}
 use Rattle.read_list.proofs.CheckLaws.{check_start, check_short}
 
 -- a step of a run is read as it is, and is not 0
-pub reads : {l : List ℕ} {here step next : ℕ} → Step l here step next → Short step (cursor_at next) ≡ short_at l here
+pub reads : {l : List ℕ} {here step next : ℕ} → Step l here step next → Some (step, cursor_at next) ≡ short_at l here
 reads {l} {here} (one h p q) = short_one l here h q
 reads {l} {here} (two h p q b) = short_two l here (omega arith) p h b (λ z. omega arith)
 
@@ -79,11 +78,11 @@ run_room {l} {n} {vals} {count} {first} {st} {run} r g e =
     sizes_left y (suc p) k room h b a = omega arith
 
 pub check_run : {l : List ℕ} {n vals : ℕ} {held : ListRule} {count : ℕ} {first st : State} {row : List ℕ} {st' : State} {more' : ℕ} → Known l
-    → Room l n vals count first → Against held n row → {off : Bool} → (off ≡ true → AllOff l vals (first.passed + count) held) → not off ≡ false
+    → Room l n vals count first → Against held n row → {off : Bool} → (off ≡ true → AllOff l vals (first.passed + count) held) → off ≡ true
     → {run : StepRun} → RunFrom l n first count run → st ≡ after first run → Checking l n vals held (count - run.count) st row st' more'
     → Checking l n vals held count first row st' more'
 check_run known room against {off} f t {run} g e w =
-    let c = run_checked known room against (f (not-false off t)) g in
+    let c = run_checked known room against (f t) g in
     let d : Checking _ _ _ _ _ _ _ _ _ = rw e at w in
     record {
       same = d.same ∙ c.same;

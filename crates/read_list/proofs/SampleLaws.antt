@@ -1,5 +1,6 @@
 -- What each way out of `take_head`, `take_step` and `next_head` says, from the tests that led there.
 -- Assumes nothing.
+use Rattle.std.specs.Prelude.{Result, Ok, Err}
 use mathlib.Core.Path.{◌≡◌, refl, sym, ◌∙◌, subst}
 use Prim.Native.Nat.{ℕ, suc, ◌+◌, ◌-◌, ◌≤◌, ◌<◌}
 use native.Mathlib.Omega.{arith}
@@ -19,25 +20,21 @@ use Rattle.head_index.proofs.ByIndex.{low_byte}
 use Rattle.base_cursor.specs.Steps.{cursor_at, number_step, varint_at}
 use Rattle.base_cursor.specs.declared.Cursor.{Cursor}
 use Rattle.base_cursor.specs.declared.NumberStep.{NumberStep}
-use Rattle.base_cursor.specs.declared.VarintStep.{VarintStep}
-use Rattle.base_cursor.specs.declared.VarintStep.TheVariants as varint
 use Rattle.read_list.specs.Entries.{headed, moved, reach, take_head, take_step, group_bytes, next_head, next_sample}
 use Rattle.read_list.specs.Room.{EntryReady}
 use Rattle.read_list.specs.declared.State.{State}
-use Rattle.read_list.specs.declared.EntryStep.{EntryStep}
-use Rattle.read_list.specs.declared.EntryStep.TheVariants.{On, Refused}
 use Rattle.read_list.proofs.NumberLaws.{Known, InMemory, wide, narrow}
 
 -- ---- a sample's two tests
 
 module _ (n least q : ℕ) (st : State) where
-  reach_low : st.last < least → Refused (refusal 23 q) ≡ reach n least q st
+  reach_low : st.last < least → Err (refusal 23 q) ≡ reach n least q st
   reach_low h = simp (lt-leb least st.last h)
 
-  reach_high : least ≤ st.last → n ≤ st.last → Refused (refusal 24 q) ≡ reach n least q st
+  reach_high : least ≤ st.last → n ≤ st.last → Err (refusal 24 q) ≡ reach n least q st
   reach_high h g = simp (le-leb least st.last h, le-ltb st.last n g)
 
-  reach_on : least ≤ st.last → st.last < n → On st ≡ reach n least q st
+  reach_on : least ≤ st.last → st.last < n → Ok st ≡ reach n least q st
   reach_on h g = simp (le-leb least st.last h, lt-ltb st.last n g)
 
 -- ---- a head: w is its width, and `read` the number that was read
@@ -52,37 +49,37 @@ module _ (l : List ℕ) (n least : ℕ) (size : Cursor) (st : State) (w : ℕ) (
   head_is = rw (e, f)
 
   module _ (why : Refusal) where
-    pub head_low : why ≡ refusal 23 st.head.at → read.value < least → Refused why ≡ take_head l n least size st
+    pub head_low : why ≡ refusal 23 st.head.at → read.value < least → Err why ≡ take_head l n least size st
     head_low q h = rw q (reach_low n least st.head.at there h ∙ head_is)
 
-    pub head_high : why ≡ refusal 24 st.head.at → least ≤ read.value → n ≤ read.value → Refused why ≡ take_head l n least size st
+    pub head_high : why ≡ refusal 24 st.head.at → least ≤ read.value → n ≤ read.value → Err why ≡ take_head l n least size st
     head_high q h g = rw q (reach_high n least st.head.at there h g ∙ head_is)
 
-  pub head_on : least ≤ read.value → read.value < n → On there ≡ take_head l n least size st
+  pub head_on : least ≤ read.value → read.value < n → Ok there ≡ take_head l n least size st
   head_on h g = reach_on n least st.head.at there h g ∙ head_is
 
 pub ruleset head_laws = (head_low, head_high, head_on, wide, narrow)
 
 -- ---- a step: `r` is what its varint was read as
 
-module _ (l : List ℕ) (n : ℕ) (st : State) (r : VarintStep) (e : r ≡ varint_at l st.at.at) where
-  pub step_bad : (why : Refusal) → r ≡ varint.Refused why → Refused why ≡ take_step (varint_at l st.at.at) n st
+module _ (l : List ℕ) (n : ℕ) (st : State) (r : Result (ℕ × Cursor) Refusal) (e : r ≡ varint_at l st.at.at) where
+  pub step_bad : (why : Refusal) → r ≡ Err why → Err why ≡ take_step (varint_at l st.at.at) n st
   unfolding take_step
   step_bad why q = rw (← e, q)
 
-  module _ (d : ℕ) (c : Cursor) (q : r ≡ varint.Value d c) (b : st.last < n) where
+  module _ (d : ℕ) (c : Cursor) (q : r ≡ Ok (d, c)) (b : st.last < n) where
     step_is : reach n (suc st.last) st.at.at (moved d c st) ≡ take_step (varint_at l st.at.at) n st
     unfolding take_step
     step_is = rw (← e, q)
 
     module _ (why : Refusal) where
-      pub step_zero : why ≡ refusal 23 st.at.at → d ≡ 0 → Refused why ≡ take_step (varint_at l st.at.at) n st
+      pub step_zero : why ≡ refusal 23 st.at.at → d ≡ 0 → Err why ≡ take_step (varint_at l st.at.at) n st
       step_zero f z = rw f (reach_low n (suc st.last) st.at.at (moved d c st) (omega arith) ∙ step_is)
 
-      pub step_far : why ≡ refusal 24 st.at.at → (d ≡ 0 → ⊥) → n - st.last ≤ d → Refused why ≡ take_step (varint_at l st.at.at) n st
+      pub step_far : why ≡ refusal 24 st.at.at → (d ≡ 0 → ⊥) → n - st.last ≤ d → Err why ≡ take_step (varint_at l st.at.at) n st
       step_far f z h = rw f (reach_high n (suc st.last) st.at.at (moved d c st) (omega arith) (omega arith) ∙ step_is)
 
-    pub step_on : (d ≡ 0 → ⊥) → d < n - st.last → On (moved d c st) ≡ take_step (varint_at l st.at.at) n st
+    pub step_on : (d ≡ 0 → ⊥) → d < n - st.last → Ok (moved d c st) ≡ take_step (varint_at l st.at.at) n st
     step_on z h = reach_on n (suc st.last) st.at.at (moved d c st) (omega arith) (omega arith) ∙ step_is
 
 pub ruleset step_laws = (step_bad, step_zero, step_far, step_on)
@@ -94,7 +91,7 @@ size_small l p read e known = rw (e, ← low_byte p l refl) (known p).fits
 
 module _ (l : List ℕ) (n : ℕ) (st : State) where
   -- `least` and `size` are what the ways there left
-  module _ (least : ℕ) (size : Cursor) (r : EntryStep) (o : r ≡ take_head l n least size st) where
+  module _ (least : ℕ) (size : Cursor) (r : Result State Refusal) (o : r ≡ take_head l n least size st) where
     pub is_first : st.passed ≡ 0 → least ≡ 0 → size ≡ st.size → r ≡ next_head l n st
     unfolding next_head
     is_first k a b = rw (o, a, b) (simp (eq-eqb st.passed 0 k))
@@ -103,11 +100,11 @@ module _ (l : List ℕ) (n : ℕ) (st : State) where
     value_is : read.value + 63 ≡ group_bytes l st
     value_is = rw e
 
-    pub is_wrong : (st.at.at ≡ st.from.at + (read.value + 63) → ⊥) → (why : Refusal) → why ≡ refusal 25 st.size.at → Refused why ≡ next_head l n st
+    pub is_wrong : (st.at.at ≡ st.from.at + (read.value + 63) → ⊥) → (why : Refusal) → why ≡ refusal 25 st.size.at → Err why ≡ next_head l n st
     unfolding next_head
     is_wrong s why f = rw f (simp (ne_eqb st.passed 0 k, ne_eqb st.at.at (st.from.at + group_bytes l st) (rw value_is at s)))
 
-    pub is_next : st.at.at ≡ st.from.at + (read.value + 63) → (least : ℕ) (size : Cursor) (r : EntryStep) → r ≡ take_head l n least size st
+    pub is_next : st.at.at ≡ st.from.at + (read.value + 63) → (least : ℕ) (size : Cursor) (r : Result State Refusal) → r ≡ take_head l n least size st
         → least ≡ st.last + 1 → size ≡ read.next → r ≡ next_head l n st
     unfolding next_head
     is_next s least size r o a b =
@@ -142,7 +139,7 @@ module _ (l : List ℕ) (n : ℕ) (st : State) where
   is_step z = simp (ne_eqb st.room 0 z)
 
   -- `got` is what either gave
-  module _ (got r : EntryStep) (q : got ≡ r) where
+  module _ (got r : Result State Refusal) (q : got ≡ r) where
     pub got_head : st.room ≡ 0 → r ≡ next_head l n st → got ≡ next_sample l n st
     got_head z e = q ∙ e ∙ sym (is_head z)
 
@@ -153,11 +150,11 @@ pub ruleset sample_laws = (got_head, got_step)
 
 -- ---- what is known of a step that was not refused
 
-abbrev pub Goes : (State → Type 0) → EntryStep → Type 0
-Goes P (On t) = P t
-Goes P (Refused why) = Unit {0}
+abbrev pub Goes : (State → Type 0) → Result State Refusal → Type 0
+Goes P (Ok t) = P t
+Goes P (Err why) = Unit {0}
 
-pub by_goes : (P : State → Type 0) (b : Bool) (x : EntryStep) (why : Refusal) → (b ≡ true → Goes P x) → Goes P (pick b x (Refused why))
+pub by_goes : (P : State → Type 0) (b : Bool) (x : Result State Refusal) (why : Refusal) → (b ≡ true → Goes P x) → Goes P (pick b x (Err why))
 by_goes P true x why f = f refl
 by_goes P false x why f = tt
 
@@ -173,10 +170,10 @@ module _ (l : List ℕ) (n : ℕ) (st : State) where
     pub passed : t.passed ≡ st.passed
     pub above : (st.passed ≡ 0 → ⊥) → st.last < t.last
 
-  below_step : (m : VarintStep) → Goes Below (take_step m n st)
+  below_step : (m : Result (ℕ × Cursor) Refusal) → Goes Below (take_step m n st)
   unfolding take_step
-  below_step (varint.Refused why) = tt
-  below_step (varint.Value d c) =
+  below_step (Err why) = tt
+  below_step (Ok (d, c)) =
       by_reach Below n (suc st.last) st.at.at (moved d c st) (λ a b. record { last = b; passed = refl; above = λ k. a })
 
   below_take : (least : ℕ) (size : Cursor) → ((st.passed ≡ 0 → ⊥) → st.last < least) → Goes Below (take_head l n least size st)
@@ -195,5 +192,5 @@ module _ (l : List ℕ) (n : ℕ) (st : State) where
   unfolding next_sample
   below_sample = by_test (Goes Below) (eqb st.room 0) (λ t. below_head) (λ t. below_step (varint_at l st.at.at))
 
-  pub sample_below : (r : EntryStep) (t : State) → r ≡ next_sample l n st → r ≡ On t → Below t
+  pub sample_below : (r : Result State Refusal) (t : State) → r ≡ next_sample l n st → r ≡ Ok t → Below t
   sample_below r t e q = subst (Goes Below) (sym e ∙ q) below_sample

@@ -1,5 +1,6 @@
 -- A turn of the loops of `put_short_steps` and `check_short_steps`: `done` entries are passed, and the next step stands at `here`.
 -- Assumes nothing.
+use Rattle.std.specs.Prelude.{Option, Some}
 use mathlib.Core.Path.{◌≡◌}
 use Prim.Native.Nat.{ℕ, suc, ◌+◌, ◌-◌, ◌/◌, ◌^◌, ◌≤◌, ◌<◌}
 use native.Mathlib.Omega.{arith}
@@ -9,8 +10,6 @@ use lib.ListN.{get_or, length, set}
 use Rattle.format.specs.Limits.{most_samples}
 use Rattle.base_cursor.specs.Steps.{short_at}
 use Rattle.base_cursor.specs.declared.Cursor.{Cursor}
-use Rattle.base_cursor.specs.declared.ShortStep.{ShortStep}
-use Rattle.base_cursor.specs.declared.ShortStep.TheVariants.{Short}
 use Rattle.read_list.specs.Entries.{value_at, allows, Against}
 use Rattle.read_list.specs.Room.{Room}
 use Rattle.read_list.specs.Walked.{Putting, Checking}
@@ -61,7 +60,7 @@ module _ {l : List ℕ} {n vals : ℕ} {held : ListRule} {count : ℕ} {first : 
       pub walk_against : Against held (suc (last + step)) row
       walk_against = put_against w.putting more h
 
-      pub walk_turn : Known l → {got : ShortStep} → got ≡ short_at l here.at → {next : Cursor} → got ≡ Short step next → (step ≡ 0 → ⊥)
+      pub walk_turn : Known l → {got : Option (ℕ × Cursor)} → got ≡ short_at l here.at → {next : Cursor} → got ≡ Some (step, next) → (step ≡ 0 → ⊥)
           → {value : ℕ} → value ≡ value_at l vals (first.passed + done) → {b : Bool} → b ≡ allows held (get_or row (last + step) 0) value → not b ≡ false
           → ShortWalk l n vals held count first least row₀ (set row (last + step) value) next (last + step) (done + 1)
       walk_turn known e q k v f t =
@@ -140,7 +139,7 @@ module _ {l : List ℕ} {n vals : ℕ} {held : ListRule} {count : ℕ} {first : 
       pub check_walk_against : Against held (suc (last + step)) row
       check_walk_against = check_against w.checking some_left h
 
-      pub check_walk_turn : Known l → {got : ShortStep} → got ≡ short_at l here.at → {next : Cursor} → got ≡ Short step next → (step ≡ 0 → ⊥)
+      pub check_walk_turn : Known l → {got : Option (ℕ × Cursor)} → got ≡ short_at l here.at → {next : Cursor} → got ≡ Some (step, next) → (step ≡ 0 → ⊥)
           → {value : ℕ} → value ≡ value_at l vals passed → {b : Bool} → b ≡ allows held (get_or row (last + step) 0) value → not b ≡ false
           → CheckWalk l n vals held count first end row next (last + step) (passed + 1)
       check_walk_turn known e q k {value} v f t =

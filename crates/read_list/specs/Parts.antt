@@ -1,27 +1,21 @@
 -- The whole list by position: its count, where its parts stand, its entries. (That this is the format's own reading is proofs/Agrees.)
 -- Assumes nothing.
-use Rattle.std.specs.Prelude.{ℕ, ◌+◌, ◌-◌, ◌*◌, ◌/◌, List, length, leb, eqb}
+use Rattle.std.specs.Prelude.{ℕ, ◌+◌, ◌-◌, ◌*◌, ◌/◌, List, length, leb, eqb, Result, Ok, Err}
+use Rattle.base_cursor.specs.declared.Cursor.{Cursor}
+use Rattle.format.specs.declared.Refusal.{Refusal}
 use Rattle.format.specs.Base.{pick, refusal}
 use Rattle.format.specs.Difflist.{groups, number_width}
 use Rattle.format.specs.Packed.{two}
 use Rattle.base_cursor.specs.Steps.{cursor_at, varint_at}
-use Rattle.base_cursor.specs.declared.VarintStep.{VarintStep}
-use Rattle.base_cursor.specs.declared.VarintStep.TheVariants as varint
 use Rattle.read_packed.specs.Arrays.{unused}
 use Rattle.read_list.specs.Entries.{ListLeft, list_left, put_entries, check_entries}
 use Rattle.read_list.specs.declared.ListRule.{ListRule}
 use Rattle.read_list.specs.declared.State.{State}
-use Rattle.read_list.specs.declared.CountStep.{CountStep}
-use Rattle.read_list.specs.declared.CountStep.TheVariants as count
-use Rattle.read_list.specs.declared.PartsStep.{PartsStep}
-use Rattle.read_list.specs.declared.PartsStep.TheVariants as parts
-use Rattle.read_list.specs.declared.ListStep.{ListStep}
-use Rattle.read_list.specs.declared.ListStep.TheVariants as list
 
 -- the count, from what its varint at `at` reads as
-unfoldable pub count_of : VarintStep → ℕ → ℕ → CountStep
-count_of (varint.Refused why) n at = count.Refused why
-count_of (varint.Value m c) n at = pick (leb m n) (count.Of m c) (count.Refused (refusal 16 at))
+unfoldable pub count_of : Result (ℕ × Cursor) Refusal → ℕ → ℕ → Result (ℕ × Cursor) Refusal
+count_of (Err why) n at = Err why
+count_of (Ok (m, c)) n at = pick (leb m n) (Ok (m, c)) (Err (refusal 16 at))
 
 -- where the parts of a list of m entries stand, whose heads start at `at`
 abbrev pub sizes_at : ℕ → ℕ → ℕ → ℕ
@@ -38,28 +32,28 @@ abbrev pub first_at : ℕ → ℕ → ℕ → State
 first_at heads sizes steps =
     record { room = 0; from = cursor_at steps; last = 0; head = cursor_at heads; size = cursor_at sizes; passed = 0; at = cursor_at steps }
 
-unfoldable pub lay_out : List ℕ → ℕ → ℕ → ℕ → PartsStep
+unfoldable pub lay_out : List ℕ → ℕ → ℕ → ℕ → Result (ℕ × State) Refusal
 lay_out l n m at =
     pick (leb (steps_at n m at) (length l))
     (pick (eqb (unused two l (values_at n m at) m) 0)
-    (parts.Fits (values_at n m at) (first_at at (sizes_at n m at) (steps_at n m at)))
-    (parts.Refused (refusal 18 (steps_at n m at - 1))))
-    (parts.Refused (refusal 12 (length l)))
+    (Ok (values_at n m at, first_at at (sizes_at n m at) (steps_at n m at)))
+    (Err (refusal 18 (steps_at n m at - 1))))
+    (Err (refusal 12 (length l)))
 
 -- a whole list: what its entries come to, from their count, where their values start and the place before the first, and what `stop` makes of an answer
 -- before them
-abbrev pub laid_out : {X : Type 0} → (ListStep → X) → (ℕ → State → X) → PartsStep → X
-laid_out stop entries (parts.Refused why) = stop (list.Refused why)
-laid_out stop entries (parts.Fits vals st) = entries vals st
+abbrev pub laid_out : {X : Type 0} → ((Result Cursor Refusal) → X) → (ℕ → State → X) → Result (ℕ × State) Refusal → X
+laid_out stop entries (Err why) = stop (Err why)
+laid_out stop entries (Ok (vals, st)) = entries vals st
 
-abbrev pub counted_out : {X : Type 0} → (ListStep → X) → (ℕ → ℕ → State → X) → List ℕ → ℕ → CountStep → X
-counted_out stop entries l n (count.Refused why) = stop (list.Refused why)
-counted_out stop entries l n (count.Of m c) = pick (eqb m 0) (stop (list.Listed c)) (laid_out stop (entries m) (lay_out l n m c.at))
+abbrev pub counted_out : {X : Type 0} → ((Result Cursor Refusal) → X) → (ℕ → ℕ → State → X) → List ℕ → ℕ → Result (ℕ × Cursor) Refusal → X
+counted_out stop entries l n (Err why) = stop (Err why)
+counted_out stop entries l n (Ok (m, c)) = pick (eqb m 0) (stop (Ok c)) (laid_out stop (entries m) (lay_out l n m c.at))
 
 -- put into the row, and only checked
 unfoldable pub put_parts : ListRule → ℕ → List ℕ → ℕ → List ℕ → ListLeft
 put_parts held n l at row =
     counted_out (λ r. list_left r row) (λ m vals st. put_entries m l n vals held st row) l n (count_of (varint_at l at) n at)
 
-unfoldable pub check_parts : ListRule → ℕ → List ℕ → ℕ → List ℕ → ListStep
+unfoldable pub check_parts : ListRule → ℕ → List ℕ → ℕ → List ℕ → Result Cursor Refusal
 check_parts held n l at row = counted_out (λ r. r) (λ m vals st. check_entries m l n vals held st row) l n (count_of (varint_at l at) n at)

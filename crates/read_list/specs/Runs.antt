@@ -60,9 +60,6 @@ pub record RunFrom (l : List ℕ) (n : ℕ) (st : State) (more : ℕ) (run : Ste
   pub fewer : run.count ≤ more
   pub below : st.last + run.sum < n
 
-abbrev pub no_run : StepRun
-no_run = record { count = 0; size = 0; sum = 0 }
-
 -- the place after `count` entries of a group, the last of them `last`, where the next step stands at `at`
 abbrev pub past : State → ℕ → ℕ → ℕ → State
 past st count last at =

@@ -9,12 +9,11 @@ ghost use Rattle.read_list.specs.Entries.{Against, check_entry, check_entries};
 ghost use Rattle.read_list.specs.Checked.{checked};
 
 use crate::entry::{check_value, may_hold, next_sample};
-use crate::run::{after_run, lesser, run_of, walked};
+use crate::run::{after_run, run_of, walked};
 use crate::values::values_off;
-use crate::{
-    CountStep, EntryStep, ListRule, ListStep, PartsStep, State, Walk, lay_parts, read_count,
-};
-use base_cursor::{Cursor, ShortStep};
+use crate::{ListRule, State, Walk, lay_parts, read_count};
+use base_cursor::Cursor;
+use format::Refusal;
 
 // One entry.
 fn check_entry(
@@ -24,17 +23,14 @@ fn check_entry(
     held: ListRule,
     st: State,
     row: &[u8],
-) -> EntryStep
+) -> Result<State, Refusal>
     requires entry_ready { EntryReady s.now n st }
     requires against { Against held n row.now }
     requires passed_in_bounds { values + st.passed / 4 < length s.now }
     ensures { result ≡ check_entry s.now n values held st row.now }
 {
-    let got = next_sample(s, n, st);
-    match got {
-        EntryStep::Refused(why) => EntryStep::Refused(why),
-        EntryStep::On(next) => check_value(s, values, held, next, row),
-    }
+    let next = next_sample(s, n, st)?;
+    check_value(s, values, held, next, row)
 }
 
 // Steps of a byte or two that are accepted, as many as come one after another: a loop of its own, since it needs to carry so little.
@@ -52,18 +48,15 @@ fn check_short_steps(
     ensures { Checking s.now n values held count first row.now result.st result.more }
 {
     let from = first.passed;
-    let end = from + lesser(first.room, count);
+    let end = from + first.room.min(count);
     let mut here = first.at;
     let mut last = first.last;
     let mut passed = from;
     while passed < end {
-        let ShortStep::Short(step, next) = here.short(s) else {
+        let Some((step, next)) = here.short(s) else {
             break;
         };
-        if step == 0 {
-            break;
-        }
-        if step >= n - last {
+        if step == 0 || step >= n - last {
             break;
         }
         let sample = last + step;
@@ -73,7 +66,7 @@ fn check_short_steps(
         }
         last = sample;
         here = next;
-        passed = passed + 1;
+        passed += 1;
     }
     walked(first, count, passed - from, last, here)
 }
@@ -95,12 +88,13 @@ fn check_group(
     requires all_off { off ≡ true → AllOff s.now values (first.passed + count) held }
     ensures { Checking s.now n values held count first row.now result.st result.more }
 {
-    if !off {
-        return check_short_steps(s, n, values, held, first, count, row);
+    if off {
+        if let Some(run) = run_of(s, n, first, count) {
+            let st = after_run(first, run);
+            return check_short_steps(s, n, values, held, st, count - run.count, row);
+        }
     }
-    let run = run_of(s, n, first, count);
-    let st = after_run(first, run);
-    check_short_steps(s, n, values, held, st, count - run.count, row)
+    check_short_steps(s, n, values, held, first, count, row)
 }
 
 // All entries, one after another.
@@ -112,7 +106,7 @@ fn check_entries(
     first: State,
     count: usize,
     row: &[u8],
-) -> ListStep
+) -> Result<Cursor, Refusal>
     requires room { Room s.now n values count first }
     requires against { Against held n row.now }
     ensures { result ≡ check_entries count s.now n values held first row.now }
@@ -121,42 +115,30 @@ fn check_entries(
     let mut more = count;
     let off = values_off(s, values, first.passed + count, held);
     while more > 0 {
-        let got = check_entry(s, n, values, held, st, row);
-        match got {
-            EntryStep::Refused(why) => {
-                return ListStep::Refused(why);
-            }
-            EntryStep::On(next) => {
-                let walk = check_group(s, n, values, held, off, next, more - 1, row);
-                st = walk.st;
-                more = walk.more;
-            }
-        }
+        let next = check_entry(s, n, values, held, st, row)?;
+        let walk = check_group(s, n, values, held, off, next, more - 1, row);
+        st = walk.st;
+        more = walk.more;
     }
-    let at = st.at;
-    ListStep::Listed(at)
+    Ok(st.at)
 }
 
 // The list at `c`, of n samples: the cursor after it, or a refusal.
-pub fn check_list(s: &[u8], n: usize, held: ListRule, c: Cursor, row: &[u8]) -> ListStep
+pub fn check_list(
+    s: &[u8],
+    n: usize,
+    held: ListRule,
+    c: Cursor,
+    row: &[u8],
+) -> Result<Cursor, Refusal>
     requires at_in_bounds { (c.at ≤ length s.now) × (n ≤ most_samples) }
     requires against { Against held n row.now }
     ensures { result ≡ checked held n s.now c.at row.now }
 {
-    let counted = read_count(s, n, c);
-    match counted {
-        CountStep::Refused(why) => ListStep::Refused(why),
-        CountStep::Of(m, next) => {
-            if m == 0 {
-                return ListStep::Listed(next);
-            }
-            let laid = lay_parts(s, n, m, next);
-            match laid {
-                PartsStep::Refused(why) => ListStep::Refused(why),
-                PartsStep::Fits { values, first } => {
-                    check_entries(s, n, values, held, first, m, row)
-                }
-            }
-        }
+    let (m, next) = read_count(s, n, c)?;
+    if m == 0 {
+        return Ok(next);
     }
+    let (values, first) = lay_parts(s, n, m, next)?;
+    check_entries(s, n, values, held, first, m, row)
 }

@@ -5,21 +5,16 @@ ghost use Rattle.read_list.specs.Room.{Room};
 ghost use Rattle.read_list.specs.Walked.{Accepted, PutKnown};
 ghost use Rattle.read_list.specs.Fours.{Single, FourNext, FourThere, sample_after, values_put};
 
-use crate::run::{as_step, lesser, walked};
+use crate::run::walked;
 use crate::{State, Walk};
-use base_cursor::{Cursor, ShortStep};
+use base_cursor::Cursor;
 
 // Whether four steps from `at` on take a byte each.
 fn four_single(s: &[u8], at: usize) -> bool
     requires { at + 4 ≤ length s.now }
     ensures { result ≡ true → Single s.now at 4 }
 {
-    for j in 0..4 {
-        if s[at + j] >= 128 {
-            return false;
-        }
-    }
-    true
+    s[at..at + 4].iter().all(|b| *b < 128)
 }
 
 // Whether the next four entries, of `left`, may be put at once: `passed` are, and their steps would start at `at`.
@@ -27,16 +22,7 @@ fn four_next(s: &[u8], at: usize, passed: usize, left: usize) -> bool
     requires { at ≤ length s.now }
     ensures { result ≡ true → FourNext s.now at passed left }
 {
-    if passed % 4 != 0 {
-        return false;
-    }
-    if left < 4 {
-        return false;
-    }
-    if s.len() - at < 4 {
-        return false;
-    }
-    four_single(s, at)
+    passed % 4 == 0 && left >= 4 && s.len() - at >= 4 && four_single(s, at)
 }
 
 // Four entries, with steps of a byte each from `at` on, and their values in a byte: the last one's sample.
@@ -47,9 +33,9 @@ fn put_four_entries(s: &[u8], at: usize, packed: u8, last: usize, row: &mut [u8]
     let mut sample = last;
     let mut rest = packed;
     for j in 0..4 {
-        sample = sample + as_step(s[at + j]);
+        sample += usize::from(s[at + j]);
         row[sample] = rest % 4;
-        rest = rest / 4;
+        rest /= 4;
     }
     sample
 }
@@ -69,7 +55,7 @@ pub fn put_known_steps(
     ensures { PutKnown s.now n values count first row.old row.new result.st result.more }
 {
     let from = first.passed;
-    let least = lesser(first.room, count);
+    let least = first.room.min(count);
     let mut here = first.at;
     let mut last = first.last;
     let mut done = 0;
@@ -78,15 +64,15 @@ pub fn put_known_steps(
         if four_next(s, at, from + done, least - done) {
             last = put_four_entries(s, at, s[values + (from + done) / 4], last, row);
             here = Cursor { at: at + 4 };
-            done = done + 4;
+            done += 4;
         } else {
-            let ShortStep::Short(step, next) = here.short(s) else {
+            let Some((step, next)) = here.short(s) else {
                 break;
             };
-            last = last + step;
+            last += step;
             row[last] = read_packed::two_bits(s, values, from + done);
             here = next;
-            done = done + 1;
+            done += 1;
         }
     }
     walked(first, count, done, last, here)

@@ -9,7 +9,7 @@ ghost use Rattle.read_list.specs.Entries.{list_left, Lists};
 ghost use Rattle.read_list.specs.Parts.{count_of, lay_out, put_parts};
 ghost use Rattle.read_list.specs.Listed.{listed};
 
-use base_cursor::{Cursor, VarintStep};
+use base_cursor::Cursor;
 use base_list::number_width;
 use format::{Refusal, refusal_at};
 use read_packed::Width;
@@ -27,13 +27,6 @@ use crate::entry::put_entries;
 pub enum ListRule {
     OffPair(u8, u8),
     OffRow,
-}
-
-// The cursor after a list, or a refusal.
-#[derive(Clone, Copy)]
-pub enum ListStep {
-    Listed(Cursor),
-    Refused(Refusal),
 }
 
 // Where the walk through the entries is: `room` entries are still to come in this group, whose steps start at `from`; `last` is the sample
@@ -64,47 +57,21 @@ pub struct StepRun {
     pub sum: usize,
 }
 
-// The place after an entry's sample or value, or a refusal.
-#[derive(Clone, Copy)]
-pub enum EntryStep {
-    On(State),
-    Refused(Refusal),
-}
-
-// A list's count with the cursor after it, or a refusal.
-#[derive(Clone, Copy)]
-pub enum CountStep {
-    Of(usize, Cursor),
-    Refused(Refusal),
-}
-
-// Where a list's values start, with the place before its first entry, or a refusal.
-#[derive(Clone, Copy)]
-pub enum PartsStep {
-    Fits { values: usize, first: State },
-    Refused(Refusal),
-}
-
 // 01: "A count L, at most N, as a varint." Its refusals: 12, 15, 16.
-pub fn read_count(s: &[u8], n: usize, c: Cursor) -> CountStep
+pub fn read_count(s: &[u8], n: usize, c: Cursor) -> Result<(usize, Cursor), Refusal>
     requires { c.at ≤ length s.now }
     ensures { result ≡ count_of (varint_at s.now c.at) n c.at }
 {
     let at = c.at;
-    let got = c.varint(s);
-    match got {
-        VarintStep::Refused(why) => CountStep::Refused(why),
-        VarintStep::Value(m, next) => {
-            if m > n {
-                return CountStep::Refused(refusal_at(16, at));
-            }
-            CountStep::Of(m, next)
-        }
+    let (m, next) = c.varint(s)?;
+    if m > n {
+        return Err(refusal_at(16, at));
     }
+    Ok((m, next))
 }
 
 // 01, Replies: "the heads, size bytes and values must fit; unused value bits (18)". The parts of a list of m entries, whose heads start at `c`.
-pub fn lay_parts(s: &[u8], n: usize, m: usize, c: Cursor) -> PartsStep
+pub fn lay_parts(s: &[u8], n: usize, m: usize, c: Cursor) -> Result<(usize, State), Refusal>
     requires { (c.at ≤ length s.now) × (0 < m) × (m ≤ most_samples) }
     ensures { result ≡ lay_out s.now n m c.at }
 {
@@ -113,48 +80,43 @@ pub fn lay_parts(s: &[u8], n: usize, m: usize, c: Cursor) -> PartsStep
     let values = size.past(groups - 1);
     let steps = values.past((m + 3) / 4);
     if steps.at > s.len() {
-        return PartsStep::Refused(refusal_at(12, s.len()));
+        return Err(refusal_at(12, s.len()));
     }
     if read_packed::unused_bits(s, values.at, m, Width::Two) != 0 {
-        return PartsStep::Refused(refusal_at(18, steps.at - 1));
+        return Err(refusal_at(18, steps.at - 1));
     }
-    PartsStep::Fits {
-        values: values.at,
-        first: State {
-            room: 0,
-            from: steps,
-            last: 0,
-            head: c,
-            size,
-            passed: 0,
-            at: steps,
-        },
-    }
+    let first = State {
+        room: 0,
+        from: steps,
+        last: 0,
+        head: c,
+        size,
+        passed: 0,
+        at: steps,
+    };
+    Ok((values.at, first))
 }
 
 // A list, whose entries stay in the row where a later one is refused.
-fn put_parts(s: &[u8], n: usize, held: ListRule, known: bool, c: Cursor, row: &mut [u8]) -> ListStep
+fn put_parts(
+    s: &[u8],
+    n: usize,
+    held: ListRule,
+    known: bool,
+    c: Cursor,
+    row: &mut [u8],
+) -> Result<Cursor, Refusal>
     requires at_in_bounds { c.at ≤ length s.now }
     requires n_in_bounds { (n ≤ length row.old) × (n ≤ most_samples) }
     requires lists { known ≡ true → Lists (put_parts held n s.now c.at row.old) }
     ensures { list_left result row.new ≡ put_parts held n s.now c.at row.old }
 {
-    let counted = read_count(s, n, c);
-    match counted {
-        CountStep::Refused(why) => ListStep::Refused(why),
-        CountStep::Of(m, next) => {
-            if m == 0 {
-                return ListStep::Listed(next);
-            }
-            let laid = lay_parts(s, n, m, next);
-            match laid {
-                PartsStep::Refused(why) => ListStep::Refused(why),
-                PartsStep::Fits { values, first } => {
-                    put_entries(s, n, values, held, known, first, m, row)
-                }
-            }
-        }
+    let (m, next) = read_count(s, n, c)?;
+    if m == 0 {
+        return Ok(next);
     }
+    let (values, first) = lay_parts(s, n, m, next)?;
+    put_entries(s, n, values, held, known, first, m, row)
 }
 
 // The list at `c`, of n samples: its values are put into the row's first n bytes, which hold what the list is against, and a refusal leaves them zero. `known`
@@ -166,18 +128,15 @@ pub fn put_list(
     known: bool,
     c: Cursor,
     row: &mut [u8],
-) -> ListStep
+) -> Result<Cursor, Refusal>
     requires at_in_bounds { c.at ≤ length s.now }
     requires n_in_bounds { (n ≤ length row.old) × (n ≤ most_samples) }
     requires lists { known ≡ true → Lists (listed held n s.now c.at row.old) }
     ensures { list_left result row.new ≡ listed held n s.now c.at row.old }
 {
     let got = put_parts(s, n, held, known, c, row);
-    match got {
-        ListStep::Listed(next) => ListStep::Listed(next),
-        ListStep::Refused(why) => {
-            base_rows::clear(row, n);
-            ListStep::Refused(why)
-        }
+    if got.is_err() {
+        base_rows::clear(row, n);
     }
+    got
 }

@@ -19,21 +19,14 @@ pub enum Width {
     Two,
 }
 
-// The cursor after an array, or a refusal.
-#[derive(Clone, Copy)]
-pub enum PackedStep {
-    Next(Cursor),
-    Refused(Refusal),
-}
-
 // How many bytes hold n numbers.
 pub fn packed_size(width: Width, n: usize) -> usize
     requires { n ≤ most_numbers }
     ensures { result ≡ packed_size (bits_of width) n }
 {
     match width {
-        Width::One => (n + 7) / 8,
-        Width::Two => (n + 3) / 4,
+        Width::One => n.div_ceil(8),
+        Width::Two => n.div_ceil(4),
     }
 }
 
@@ -74,40 +67,42 @@ pub fn unused_bits(s: &[u8], at: usize, n: usize, width: Width) -> u8
     match width {
         Width::One => {
             if n % 8 == 0 {
-                return 0;
+                0
+            } else {
+                s[at + n / 8] >> (n % 8)
             }
-            s[at + n / 8] >> (n % 8)
         }
         Width::Two => {
             if n % 4 == 0 {
-                return 0;
+                0
+            } else {
+                s[at + n / 4] >> (2 * (n % 4))
             }
-            s[at + n / 4] >> (2 * (n % 4))
         }
     }
 }
 
 // 01, Replies: "first that the part fits (12), then its rule": 18, "unused record bits set", at "that byte".
-pub fn check_array(s: &[u8], c: Cursor, n: usize, width: Width) -> PackedStep
+pub fn check_array(s: &[u8], c: Cursor, n: usize, width: Width) -> Result<Cursor, Refusal>
     requires { (c.at ≤ length s.now) × (n ≤ most_numbers) }
     ensures { result ≡ array_at (bits_of width) n s.now c.at }
 {
     let at = c.at;
     let size = packed_size(width, n);
     if size > s.len() - at {
-        return PackedStep::Refused(refusal_at(12, s.len()));
+        return Err(refusal_at(12, s.len()));
     }
     if unused_bits(s, at, n, width) != 0 {
-        return PackedStep::Refused(refusal_at(18, at + size - 1));
+        return Err(refusal_at(18, at + size - 1));
     }
-    PackedStep::Next(c.past(size))
+    Ok(c.past(size))
 }
 
 // The four two-bit numbers of a byte, one to each byte of a wider number.
 fn spread_quad(b: u8) -> u32
     ensures { Spread result (b % 4) (b / 4 % 4) (b / 16 % 4) (b / 64) }
 {
-    let x = b as u32;
+    let x = u32::from(b);
     x % 4 + 256 * (x / 4 % 4) + 65536 * (x / 16 % 4) + 16777216 * (x / 64)
 }
 
@@ -115,11 +110,12 @@ fn spread_quad(b: u8) -> u32
 fn spread_bits(b: u8) -> u32
     ensures { Spread result (b % 2) (b / 2 % 2) (b / 4 % 2) (b / 8 % 2) }
 {
-    let x = b as u32;
+    let x = u32::from(b);
     x % 2 + 256 * (x / 2 % 2) + 65536 * (x / 4 % 2) + 16777216 * (x / 8 % 2)
 }
 
-// Its four bytes one after another: the compiler stores them at once, and several such in one step of the loops below.
+// Its four bytes one after another: the compiler stores them at once, and several such in one step of the loops below. Written as
+// a copy of `to_le_bytes`, two bits were unpacked at a fifth of the speed.
 fn put_four(row: &mut [u8], at: usize, x: u32)
     requires { at + 4 ≤ length row.old }
     ensures { row.new ≡ put row.old at x }
@@ -181,18 +177,13 @@ fn store_numbers(s: &[u8], at: usize, n: usize, width: Width, row: &mut [u8])
 }
 
 // 01, Categories: "Packed: two bits per sample, lowest sample in the lowest bits." The array's categories into the row's first n bytes.
-pub fn unpack_categories(s: &[u8], c: Cursor, n: usize, row: &mut [u8]) -> PackedStep
+pub fn unpack_categories(s: &[u8], c: Cursor, n: usize, row: &mut [u8]) -> Result<Cursor, Refusal>
     requires { (c.at ≤ length s.now) × (n ≤ most_samples) × (n ≤ length row.old) }
     ensures { unpack_left result row.new ≡ unpacked_two n s.now c.at row.old }
 {
-    let checked = check_array(s, c, n, Width::Two);
-    match checked {
-        PackedStep::Refused(why) => PackedStep::Refused(why),
-        PackedStep::Next(end) => {
-            store_numbers(s, c.at, n, Width::Two, row);
-            PackedStep::Next(end)
-        }
-    }
+    let end = check_array(s, c, n, Width::Two)?;
+    store_numbers(s, c.at, n, Width::Two, row);
+    Ok(end)
 }
 
 // The category of a pair that a bit stands for.
@@ -220,17 +211,12 @@ pub fn unpack_pair(
     lower: u8,
     higher: u8,
     row: &mut [u8],
-) -> PackedStep
+) -> Result<Cursor, Refusal>
     requires { (c.at ≤ length s.now) × (n ≤ most_samples) × (n ≤ length row.old) }
     ensures { unpack_left result row.new ≡ unpacked_one lower higher n s.now c.at row.old }
 {
-    let checked = check_array(s, c, n, Width::One);
-    match checked {
-        PackedStep::Refused(why) => PackedStep::Refused(why),
-        PackedStep::Next(end) => {
-            store_numbers(s, c.at, n, Width::One, row);
-            choose(row, n, lower, higher);
-            PackedStep::Next(end)
-        }
-    }
+    let end = check_array(s, c, n, Width::One)?;
+    store_numbers(s, c.at, n, Width::One, row);
+    choose(row, n, lower, higher);
+    Ok(end)
 }

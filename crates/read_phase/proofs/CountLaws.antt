@@ -1,12 +1,12 @@
 -- H of a row, a part at a time.
 -- Assumes nothing.
-use mathlib.Core.Path.{◌≡◌, refl}
-use Prim.Native.Nat.{ℕ, zero, suc, ◌+◌, ◌-◌, ◌<◌, ◌≤◌}
+use mathlib.Core.Path.{◌≡◌, refl, sym, ◌∙◌}
+use Prim.Native.Nat.{ℕ, suc, ◌+◌, ◌-◌, ◌%◌, ◌<◌, ◌≤◌}
 use native.Mathlib.Omega.{arith}
 use native.Mathlib.Numerals.{add-one}
 use mathlib.Core.List.{List, [], ◌∷◌, ◌++◌}
-use lib.ListN.{length, get_or, take, drop, drop_of_length-le, length-take}
-use lib.Seq.{drop-cons}
+use lib.ListN.{length, get_or, take, drop, drop_of_length-le, length-append, length-take}
+use lib.Seq.{drop-cons, drop-append-add}
 use mir.Syntax.{w8, w64}
 use mir.Val.{Fits}
 use Rattle.format.specs.Limits.{most_samples}
@@ -58,69 +58,57 @@ module _ (part : List ℕ) (count i : ℕ) (w : Counting part count i) where
 
 pub ruleset count_laws = (uncounted, count_room, count_turn, counted)
 
--- ---- the loop over the parts of a row
+-- ---- the loop over parts of some samples, of `size` each: `left` are those of the parts to come and of the rest, which are fewer
 
-pub record CountingParts (row : List ℕ) (n count i : ℕ) : Type 0 where
-  pub reached : i ≤ n
-  pub room : n ≤ length row
-  pub few : count ≤ i
-  pub whole : count + heterozygous_count (drop i (take n row)) ≡ heterozygous_count (take n row)
+pub record CountingParts (samples left rest : List ℕ) (size count : ℕ) : Type 0 where
+  pub even : size ≡ 224
+  pub few : count + length left ≤ most_samples
+  pub whole : count + heterozygous_count left ≡ heterozygous_count samples
+  pub last : drop (length left - length left % 224) left ≡ rest
 
-pub no_part_counted : (row : List ℕ) (n : ℕ) → n ≤ length row → CountingParts row n 0 0
-no_part_counted row n h = record { reached = omega arith; room = h; few = omega arith; whole = omega arith }
+pub no_part_counted : (row rest : List ℕ) (n : ℕ) → n ≤ most_samples → rest ≡ drop (length (take n row) - length (take n row) % 224) (take n row)
+    → CountingParts (take n row) (take n row) rest 224 0
+no_part_counted row rest n h e = record { even = refl; few = omega (arith, length-take n row); whole = omega arith; last = sym e }
 
--- a part from i to `end` stands first in what is to come
-front : (n end : ℕ) (row : List ℕ) → end ≤ n → take n row ≡ take end row ++ drop end (take n row)
-front n zero row g = refl
-front zero (suc end) row g = absurd (omega arith)
-front (suc n) (suc end) [] g = refl
-front (suc n) (suc end) (x ∷ row) g = rw (← front n end row (omega arith))
+module _ (samples left rest : List ℕ) (size count : ℕ) (w : CountingParts samples left rest size count) where
+  pub part_short : (part : List ℕ) → length part ≡ size → length part ≤ 255
+  part_short part h = omega (arith, w.even)
 
-pub cut : (n i end : ℕ) (row : List ℕ) → i ≤ end → end ≤ n → drop i (take n row) ≡ take (end - i) (drop i row) ++ drop end (take n row)
-cut n zero end row h g = let z : end - 0 ≡ end = omega arith in rw z (front n end row g)
-cut n (suc i) zero row h g = absurd (omega arith)
-cut zero (suc i) (suc end) row h g = absurd (omega arith)
-cut (suc n) (suc i) (suc end) [] h g = none (suc end - suc i)
-  where
-    none : (k : ℕ) → ◌≡◌ {A = List ℕ} [] (take k [] ++ [])
-    none zero = refl
-    none (suc k) = refl
-cut (suc n) (suc i) (suc end) (x ∷ row) h g = let z : suc end - suc i ≡ end - i = omega arith in rw z (cut n i end row (omega arith) (omega arith))
+  module _ (part next : List ℕ) (h : left ≡ part ++ next) (x : ℕ) (e : x ≡ heterozygous_count part) where
+    lengths : length left ≡ length part + length next
+    lengths = rw h (length-append part next)
 
-module _ (row : List ℕ) (n count i : ℕ) (w : CountingParts row n count i) where
-  module _ (end : ℕ) (h : i ≤ end) (g : end ≤ n) (x : ℕ) (e : x ≡ heterozygous_count (take (end - i) (drop i row))) where
-    part_few : x ≤ end - i
-    part_few = rw e (omega (arith, heterozygous_count_most (take (end - i) (drop i row)), length-take (end - i) (drop i row)))
+    part_few : count + x + length next ≤ most_samples
+    part_few = omega (arith, lengths, w.few, e, heterozygous_count_most part)
 
-    part_more : CountingParts row n (count + x) end
-    part_more =
-        let m : heterozygous_count (drop i (take n row)) ≡ x + heterozygous_count (drop end (take n row))
-        = rw (cut n i end row h g, e) (count_append (take (end - i) (drop i row)) (drop end (take n row))) in
-        record { reached = g; room = w.room; few = omega (arith, part_few); whole = omega (arith, w.whole) }
+    pub part_room : Fits w64 (count + x)
+    part_room = record { fits = omega (arith, part_few) }
 
-  module _ (more : 224 < n - i) where
-    pub part_short : length (take (i + 224 - i) (drop i row)) ≤ 255
-    part_short = omega (arith, length-take (i + 224 - i) (drop i row))
+    pub part_turn : length part ≡ size → (same : ℕ) → same ≡ size → CountingParts samples next rest same (count + x)
+    part_turn k same f =
+        let m : heterozygous_count left ≡ x + heterozygous_count next = rw (h, e) (count_append part next) in
+        let d : length left - length left % 224 ≡ length part + (length next - length next % 224) = omega (arith, lengths, k, w.even) in
+        record {
+          even = omega (arith, w.even);
+          few = part_few;
+          whole = omega (arith, w.whole);
+          last = sym (drop-append-add part next (length next - length next % 224)) ∙ rw (d, h) at w.last;
+        }
 
-    module _ (x : ℕ) (e : x ≡ heterozygous_count (take (i + 224 - i) (drop i row))) where
-      pub part_room : n ≤ most_samples → Fits w64 (count + x)
-      part_room k = record { fits = omega (arith, part_few (i + 224) (omega arith) (omega arith) x e) }
+  module _ (h : length left < size) where
+    rest_is : left ≡ rest
+    rest_is = let z : length left - length left % 224 ≡ 0 = omega (arith, w.even) in rw z at w.last
 
-      pub part_turn : CountingParts row n (count + x) (i + 224)
-      part_turn = part_more (i + 224) (omega arith) (omega arith) x e
+    pub rest_short : length rest ≤ 255
+    rest_short = rw (← rest_is) (omega (arith, w.even))
 
-  module _ (last : n - i ≤ 224) where
-    pub last_short : length (take (n - i) (drop i row)) ≤ 255
-    last_short = omega (arith, length-take (n - i) (drop i row))
+    module _ (x : ℕ) (e : x ≡ heterozygous_count rest) where
+      pub rest_room : Fits w64 (count + x)
+      rest_room =
+          let k : heterozygous_count rest ≤ length left = rw (← rest_is) (heterozygous_count_most left) in
+          record { fits = omega (arith, w.few) }
 
-    module _ (x : ℕ) (e : x ≡ heterozygous_count (take (n - i) (drop i row))) where
-      pub last_room : n ≤ most_samples → Fits w64 (count + x)
-      last_room k = record { fits = omega (arith, part_few n w.reached (omega arith) x e) }
+      pub parts_counted : count + x ≡ heterozygous_count samples
+      parts_counted = rw (e, ← rest_is) w.whole
 
-      pub parts_counted : count + x ≡ heterozygous_count (take n row)
-      parts_counted =
-          let k : length (take n row) ≤ n = omega (arith, length-take n row) in
-          let z : heterozygous_count (drop n (take n row)) ≡ 0 = rw (drop_of_length-le (take n row) k) count_none in
-          omega (arith, (part_more n w.reached (omega arith) x e).whole)
-
-pub ruleset parts_laws = (no_part_counted, part_short, part_room, part_turn, last_short, last_room, parts_counted)
+pub ruleset parts_laws = (no_part_counted, part_short, part_room, part_turn, rest_short, rest_room, parts_counted)

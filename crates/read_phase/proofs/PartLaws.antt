@@ -1,5 +1,6 @@
 -- The two parts of a phase track at a place: the first bit with the presence bits, and the phase bits.
 -- Assumes nothing.
+use Rattle.std.specs.Prelude.{Ok}
 use mathlib.Core.Path.{◌≡◌, refl, sym, ap, ◌∙◌}
 use Prim.Native.Nat.{ℕ, suc, ◌+◌, ◌-◌, ◌%◌, ◌<◌, ◌≤◌}
 use native.Mathlib.Omega.{arith}
@@ -14,7 +15,6 @@ use Rattle.format.specs.Phase.{first_of, first_count, presence, ones, track_told
 use Rattle.head_index.specs.NumbersAt.{digit_at, digits_at}
 use Rattle.base_cursor.specs.declared.Cursor.{Cursor}
 use Rattle.read_packed.specs.Unpacked.{array_at}
-use Rattle.read_packed.specs.declared.PackedStep.TheVariants.{Next}
 use Rattle.read_packed.proofs.CheckLaws.{Accepted, was_accepted, Held, accepted_held}
 use Rattle.read_phase.specs.Phases.{byte_ones, stored_at}
 use Rattle.read_phase.proofs.OnesLaws.{packed_ones, ones_few, ones_all}
@@ -45,7 +45,7 @@ module _ (l : List ℕ) (at h : ℕ) where
     pub small : Below 2 first_there
     pub count : length first_there ≡ first_count h (drop at l)
 
-  pub first_part : (known : (i : ℕ) → get_or l i 0 < 256) → at ≤ length l → (next : Cursor) → Next next ≡ array_at one (first_count h (drop at l)) l at
+  pub first_part : (known : (i : ℕ) → get_or l i 0 < 256) → at ≤ length l → (next : Cursor) → Ok next ≡ array_at one (first_count h (drop at l)) l at
       → FirstPart next.at
   first_part known room next e =
       let n : ℕ = first_count h (drop at l) in

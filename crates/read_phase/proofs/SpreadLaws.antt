@@ -14,7 +14,27 @@ use Rattle.format.proofs.PhaseLaws.{spread_length}
 use Rattle.base_calls.specs.CallCount.{call_count}
 use Rattle.base_calls.proofs.CallCountLaws.{count_cons}
 use Rattle.read_phase.specs.Parts.{spread_from}
-use Rattle.read_phase.proofs.CountLaws.{count_none, count_append, cut}
+use Rattle.read_phase.proofs.CountLaws.{count_none, count_append}
+
+-- ---- a part of a row's first n samples
+
+-- a part from i to `end` stands first in what is to come
+front : (n end : ℕ) (row : List ℕ) → end ≤ n → take n row ≡ take end row ++ drop end (take n row)
+front n zero row g = refl
+front zero (suc end) row g = absurd (omega arith)
+front (suc n) (suc end) [] g = refl
+front (suc n) (suc end) (x ∷ row) g = rw (← front n end row (omega arith))
+
+cut : (n i end : ℕ) (row : List ℕ) → i ≤ end → end ≤ n → drop i (take n row) ≡ take (end - i) (drop i row) ++ drop end (take n row)
+cut n zero end row h g = let z : end - 0 ≡ end = omega arith in rw z (front n end row g)
+cut n (suc i) zero row h g = absurd (omega arith)
+cut zero (suc i) (suc end) row h g = absurd (omega arith)
+cut (suc n) (suc i) (suc end) [] h g = none (suc end - suc i)
+  where
+    none : (k : ℕ) → ◌≡◌ {A = List ℕ} [] (take k [] ++ [])
+    none zero = refl
+    none (suc k) = refl
+cut (suc n) (suc i) (suc end) (x ∷ row) h g = let z : suc end - suc i ≡ end - i = omega arith in rw z (cut n i end row (omega arith) (omega arith))
 
 -- ---- the phases of a row
 

@@ -1,5 +1,7 @@
 -- An accepted phase track: where its parts stand, and that the format's own reading of it is what the parts tell.
 -- Assumes nothing.
+use Rattle.std.specs.Prelude.{Result, Ok}
+use Rattle.format.specs.declared.Refusal.{Refusal}
 use mathlib.Core.Path.{◌≡◌, refl, sym, ap, ◌∙◌}
 use Prim.Native.Nat.{ℕ, zero, suc, ◌+◌, ◌-◌, ◌<◌, ◌≤◌}
 use native.Mathlib.Omega.{arith}
@@ -19,8 +21,6 @@ use Rattle.base_cursor.specs.Steps.{before}
 use Rattle.base_cursor.specs.declared.Cursor.{Cursor}
 use Rattle.read_packed.specs.Arrays.{most_numbers, number_in}
 use Rattle.read_packed.specs.Unpacked.{array_at}
-use Rattle.read_packed.specs.declared.PackedStep.{PackedStep}
-use Rattle.read_packed.specs.declared.PackedStep.TheVariants.{Next}
 use Rattle.read_packed.proofs.CheckLaws.{Accepted, was_accepted}
 use Rattle.read_phase.specs.Phases.{byte_ones, stored_at, phases_at, PhasesThere, phases_put}
 use Rattle.read_phase.specs.Parts.{presence_at, drawn, told_from, present_in, bit_in, PartsThere, calls_put, spread_from, parts_put}
@@ -124,8 +124,8 @@ module _ (l : List ℕ) (known : (i : ℕ) → get_or l i 0 < 256) where
         ap (λ (t : PhaseTrack). t.phases) second_accepted.is ∙ rw (bits_drawn l bits_begin 0 (phase_bits_there l at h), presence_drawn)
 
 -- a track that the check accepted is there, for the call that puts it: `got` is what the check gave
-pub phases_there : (n : ℕ) (l : List ℕ) (at : ℕ) (row : List ℕ) (h : ℕ) (got : PackedStep) (end : Cursor) → h ≡ heterozygous_count (take n row)
-    → got ≡ phases_at h l at → got ≡ Next end → PhasesThere n l at row
+pub phases_there : (n : ℕ) (l : List ℕ) (at : ℕ) (row : List ℕ) (h : ℕ) (got : Result Cursor Refusal) (end : Cursor) → h ≡ heterozygous_count (take n row)
+    → got ≡ phases_at h l at → got ≡ Ok end → PhasesThere n l at row
 unfolding phases_at
 phases_there n l at row h got end o e q = through (read_phase_track (length l) (heterozygous_count (take n row)) (drop at l)) refl
   where

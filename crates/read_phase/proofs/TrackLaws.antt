@@ -1,5 +1,6 @@
 -- The ways through the check of a phase track.
 -- Assumes nothing.
+use Rattle.std.specs.Prelude.{Result, Ok, Err}
 use mathlib.Core.Path.{◌≡◌, refl, sym, ◌∙◌}
 use Prim.Native.Nat.{ℕ, suc, ◌+◌, ◌-◌, ◌%◌, ◌<◌, ◌≤◌}
 use native.Mathlib.Omega.{arith}
@@ -18,8 +19,6 @@ use Rattle.format.specs.Phase.{PhaseTrack, first_count, track_told, read_phase_t
 use Rattle.base_cursor.specs.declared.Cursor.{Cursor}
 use Rattle.read_packed.specs.Arrays.{most_numbers}
 use Rattle.read_packed.specs.Unpacked.{packed_step, array_at}
-use Rattle.read_packed.specs.declared.PackedStep.{PackedStep}
-use Rattle.read_packed.specs.declared.PackedStep.TheVariants.{Next, Refused}
 use Rattle.read_packed.proofs.CheckLaws.{was_refused}
 use Rattle.read_phase.specs.Phases.{byte_ones, stored_at, phases_step, phases_at}
 use Rattle.read_phase.proofs.PartLaws.{FirstPart, first_part, first_there, first_set, phased_found, phased_few, phased_by_bytes, track_reads}
@@ -68,15 +67,15 @@ module _ (l : List ℕ) (at h : ℕ) (stored : Bool) (s : stored ≡ stored_at l
       either true = omega arith
       either false = omega arith
 
-  module _ (got : PackedStep) (g : got ≡ array_at one n l at) where
-    pub track_refused : (why : Refusal) → got ≡ Refused why → Refused why ≡ phases_at h l at
+  module _ (got : Result Cursor Refusal) (g : got ≡ array_at one n l at) where
+    pub track_refused : (why : Refusal) → got ≡ Err why → Err why ≡ phases_at h l at
     unfolding phases_at read_phase_track
     track_refused why q =
         let r : read_packed (length l) one (first_count h (drop at l)) (drop at l) ≡ refused why
         = rw first_is at (was_refused one l at n why (sym q ∙ g)) in
         rw r
 
-    module _ (known : (i : ℕ) → Fits w8 (get_or l i 0)) (room : at ≤ length l) (next : Cursor) (q : got ≡ Next next) where
+    module _ (known : (i : ℕ) → Fits w8 (get_or l i 0)) (room : at ≤ length l) (next : Cursor) (q : got ≡ Ok next) where
       first : FirstPart l at h next.at
       first = first_part l at h (λ i. (known i).fits) room next (rw first_is at (sym q ∙ g))
 
@@ -99,7 +98,7 @@ module _ (l : List ℕ) (at h : ℕ) (stored : Bool) (s : stored ≡ stored_at l
         pub count_few : h ≤ most_samples → count ≤ most_numbers
         count_few k = omega (arith, count_is, phased_few l at h next.at first)
 
-        pub track_ends : (r : PackedStep) → r ≡ array_at one count l next.at → r ≡ phases_at h l at
+        pub track_ends : (r : Result Cursor Refusal) → r ≡ array_at one count l next.at → r ≡ phases_at h l at
         unfolding phases_at array_at
         track_ends r o =
             o ∙ rw (count_is ∙ phased_found l at h next.at first, track_reads l at h next.at first)

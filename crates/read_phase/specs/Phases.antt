@@ -1,19 +1,19 @@
 -- The contracts: what the format's own phase track is to a step of the code.
 -- Assumes nothing.
-use Rattle.std.specs.Prelude.{◌≡◌, ℕ, ◌+◌, ◌%◌, Bool, List, [], ◌∷◌, ◌++◌, length, take, drop, eqb}
+use Rattle.std.specs.Prelude.{◌≡◌, ℕ, ◌+◌, ◌%◌, Bool, List, [], ◌∷◌, ◌++◌, length, take, drop, eqb, Result, Ok, Err}
 use Rattle.std.specs.Int.Count
+use Rattle.base_cursor.specs.declared.Cursor.{Cursor}
+use Rattle.format.specs.declared.Refusal.{Refusal}
 use Rattle.format.specs.Base.{Out, ok, refused}
 use Rattle.format.specs.Phase.{heterozygous_count, PhaseTrack, first_of, read_phase_track, spread}
 use Rattle.base_cursor.specs.Steps.{before}
-use Rattle.read_packed.specs.declared.PackedStep.{PackedStep}
-use Rattle.read_packed.specs.declared.PackedStep.TheVariants.{Next, Refused}
 
-abbrev pub phases_step : ℕ → Out PhaseTrack → PackedStep
-phases_step end (ok track left) = Next (before end left)
-phases_step end (refused why) = Refused why
+abbrev pub phases_step : ℕ → Out PhaseTrack → Result Cursor Refusal
+phases_step end (ok track left) = Ok (before end left)
+phases_step end (refused why) = Err why
 
 -- the phase track over h heterozygous calls at `at`, of a record that ends where the list does
-unfoldable pub phases_at : ℕ → List ℕ → ℕ → PackedStep
+unfoldable pub phases_at : ℕ → List ℕ → ℕ → Result Cursor Refusal
 phases_at h l at = phases_step (length l) (read_phase_track (length l) h (drop at l))
 
 -- whether the track at `at` says that presence bits follow its first bit

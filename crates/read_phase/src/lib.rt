@@ -11,35 +11,33 @@ ghost use Rattle.read_phase.specs.Parts.{presence_at, phase_of, PartsThere, call
 
 use base_calls::call_count;
 use base_cursor::Cursor;
-use read_packed::{PackedStep, Width, check_array, one_bit, packed_size};
+use format::Refusal;
+use read_packed::{Width, check_array, one_bit, packed_size};
 
 // H of a part of a row, in a byte, so that the loop goes over many samples at once.
 fn count_in(part: &[u8]) -> u8
     requires { length part.now ≤ 255 }
     ensures { result ≡ heterozygous_count part.now }
 {
-    let mut count: u8 = 0;
-    let mut i: usize = 0;
-    while i < part.len() {
-        count = count + call_count(part[i]);
-        i = i + 1;
+    let mut count = 0u8;
+    for category in part {
+        count += call_count(*category);
     }
     count
 }
 
-// 02, Ask 1: "H is the number of samples in category 1."
+// 02, Ask 1: "H is the number of samples in category 1." In parts of one size, which the compiler knows, and the rest.
 pub fn heterozygous_count(row: &[u8], n: usize) -> usize
     requires { (n ≤ length row.now) × (n ≤ most_samples) }
     ensures { result ≡ heterozygous_count (take n row.now) }
 {
-    let mut count: usize = 0;
-    let mut i: usize = 0;
-    while 224 < n - i {
-        let end = i + 224;
-        count = count + (count_in(&row[i..end]) as usize);
-        i = end;
+    let parts = row[..n].chunks_exact(224);
+    let rest = parts.remainder();
+    let mut count = 0usize;
+    for part in parts {
+        count += usize::from(count_in(part));
     }
-    count + (count_in(&row[i..n]) as usize)
+    count + usize::from(count_in(rest))
 }
 
 // How many bits of some bytes are set.
@@ -47,9 +45,9 @@ pub fn ones_in(part: &[u8]) -> usize
     requires { length part.now ≤ most_samples }
     ensures { result ≡ byte_ones part.now }
 {
-    let mut count: u32 = 0;
-    for i in 0..part.len() {
-        count = count + u8::count_ones(part[i]);
+    let mut count = 0u32;
+    for b in part {
+        count += b.count_ones();
     }
     count as usize
 }
@@ -58,10 +56,7 @@ pub fn ones_in(part: &[u8]) -> usize
 pub fn presence_stored(s: &[u8], at: usize) -> bool
     ensures { result ≡ stored_at s.now at }
 {
-    if at < s.len() {
-        return s[at] % 2 == 1;
-    }
-    false
+    at < s.len() && s[at] % 2 == 1
 }
 
 // How many bits stand before the phase bits.
@@ -77,28 +72,19 @@ pub fn phased_count(part: &[u8], stored: bool, h: usize) -> usize
     requires { (length part.now ≤ most_samples) × (stored ≡ true → 0 < byte_ones part.now) }
     ensures { result ≡ pick stored (byte_ones part.now - 1) h }
 {
-    if stored {
-        return ones_in(part) - 1;
-    }
-    h
+    if stored { ones_in(part) - 1 } else { h }
 }
 
 // 01, Replies: "first that the part fits (12), then its rule": the presence bits with the first, then the phase bits.
-pub fn check_phases(s: &[u8], c: Cursor, h: usize) -> PackedStep
+pub fn check_phases(s: &[u8], c: Cursor, h: usize) -> Result<Cursor, Refusal>
     requires { (c.at ≤ length s.now) × (h ≤ most_samples) }
     ensures { result ≡ phases_at h s.now c.at }
 {
     let at = c.at;
     let stored = presence_stored(s, at);
-    let first = check_array(s, c, first_count(stored, h), Width::One);
-    match first {
-        PackedStep::Refused(why) => PackedStep::Refused(why),
-        PackedStep::Next(next) => {
-            let bits = next.at;
-            let count = phased_count(&s[at..bits], stored, h);
-            check_array(s, next, count, Width::One)
-        }
-    }
+    let next = check_array(s, c, first_count(stored, h), Width::One)?;
+    let count = phased_count(&s[at..next.at], stored, h);
+    check_array(s, next, count, Width::One)
 }
 
 // Where the parts of a track stand, and how many phase bits it has.
@@ -115,10 +101,7 @@ fn presence_bit(s: &[u8], at: usize, stored: bool, k: usize) -> u8
     requires { (k ≤ most_samples) × (stored ≡ true → at + (k + 1) / 8 < length s.now) }
     ensures { result ≡ presence_at stored s.now at k }
 {
-    if stored {
-        return one_bit(s, at, k + 1);
-    }
-    1
+    if stored { one_bit(s, at, k + 1) } else { 1 }
 }
 
 // 02, Ask 1: "0 unphased, 1 unswapped, 2 swapped". The phase of a sample, by whether its call is phased, and by the phase bit.
@@ -126,9 +109,12 @@ fn phase_of(on: u8, bit: u8) -> u8
     ensures { result ≡ phase_of on bit }
 {
     if on == 0 {
-        return 0;
+        0
+    } else if bit == 0 {
+        1
+    } else {
+        2
     }
-    if bit == 0 { 1 } else { 2 }
 }
 
 // The phases of the h heterozygous calls, one after another, in an output's first h bytes. Once the phase bits are used up, all other calls are
@@ -139,13 +125,13 @@ fn put_calls(s: &[u8], parts: PhaseParts, h: usize, output: &mut [u8])
     ensures { output.new ≡ calls_put h s.now parts output.old }
 {
     base_rows::clear(output, h);
-    let mut k: usize = 0;
-    let mut p: usize = 0;
+    let mut k = 0usize;
+    let mut p = 0usize;
     while p < parts.count {
         let on = presence_bit(s, parts.at, parts.stored, k);
         output[k] = phase_of(on, one_bit(s, parts.bits, p));
-        k = k + 1;
-        p = p + (on as usize);
+        k += 1;
+        p += usize::from(on);
     }
 }
 
@@ -158,12 +144,10 @@ fn spread_samples(from: usize, to: usize, h: usize, row: &[u8], output: &mut [u8
     ensures value { result ≡ heterozygous_count (take from row.now) }
     ensures output_after { output.new ≡ spread_from from to row.now output.old }
 {
-    let mut i: usize = to;
-    let mut k: usize = h;
-    while from < i {
-        i = i - 1;
+    let mut k = h;
+    for i in (from..to).rev() {
         let here = call_count(row[i]);
-        k = k - (here as usize);
+        k -= usize::from(here);
         output[i] = here * output[k];
     }
     k
@@ -183,24 +167,16 @@ fn spread_part(from: usize, to: usize, h: usize, row: &[u8], output: &mut [u8]) 
     spread_samples(from, to, h, row, output)
 }
 
-// Where the short part begins that ends at `to`.
-fn part_start(to: usize) -> usize
-    requires { 0 < to }
-    ensures { (result < to) × (to ≤ result + 16) }
-{
-    if 16 < to { to - 16 } else { 0 }
-}
-
 // All of them to their samples, the first n of the row, a short part at a time, from the last to the first.
 fn spread_calls(n: usize, h: usize, row: &[u8], output: &mut [u8])
     requires n_in_bounds { (n ≤ length row.now) × (n ≤ length output.old) }
     requires h_value { h ≡ heterozygous_count (take n row.now) }
     ensures { output.new ≡ spread_from 0 n row.now output.old }
 {
-    let mut i: usize = n;
-    let mut k: usize = h;
+    let mut i = n;
+    let mut k = h;
     while 0 < i {
-        let from = part_start(i);
+        let from = i.saturating_sub(16);
         k = spread_part(from, i, k, row, output);
         i = from;
     }
@@ -228,10 +204,10 @@ pub fn put_phases(s: &[u8], c: Cursor, n: usize, row: &[u8], output: &mut [u8])
     let bits = at + packed_size(Width::One, first_count(stored, h));
     let count = phased_count(&s[at..bits], stored, h);
     let parts = PhaseParts {
-        at: at,
-        stored: stored,
-        bits: bits,
-        count: count,
+        at,
+        stored,
+        bits,
+        count,
     };
     put_bits(s, parts, h, n, row, output);
 }

@@ -1,5 +1,6 @@
 -- What follows the main track of a record: its phase track, if it has one, and nothing after it.
 -- Assumes nothing.
+use Rattle.std.specs.Prelude.{Result, Ok, ⊤}
 use mathlib.Core.Path.{◌≡◌, refl, sym, ap, ◌∙◌}
 use Prim.Native.Nat.{ℕ, suc, ◌+◌, ◌-◌, ◌≤◌}
 use native.Mathlib.Omega.{arith}
@@ -11,7 +12,6 @@ use mir.Syntax.{w8}
 use mir.Val.{Fits as Bounded}
 use borrow.Author.Tests.{lt-ltb, le-ltb}
 use Rattle.format.specs.declared.Refusal.{Refusal}
-use Rattle.format.specs.declared.Reply.{Reply}
 use Rattle.format.specs.Base.{Out, ok, refused, bind, map_out}
 use Rattle.format.specs.Limits.{most_samples}
 use Rattle.format.specs.Phase.{heterozygous_count, PhaseTrack, read_phase_track, Phases, no_phases, phased, phases_bytes, read_phases}
@@ -23,12 +23,8 @@ use Rattle.format.proofs.PhaseLaws.{IsPhases, phases_as_written, heterozygous_co
 use Rattle.base_cursor.specs.declared.Cursor.{Cursor}
 use Rattle.base_cursor.specs.Steps.{cursor_at}
 use Rattle.base_cursor.proofs.ByteLaws.{bytes_of}
-use Rattle.read_packed.specs.declared.PackedStep.{PackedStep}
-use Rattle.read_packed.specs.declared.PackedStep.TheVariants.{Next, Refused as NotPacked}
 use Rattle.read_phase.specs.Phases.{phases_step, phases_at}
 use Rattle.read_list.specs.Checked.{stepped}
-use Rattle.read_list.specs.declared.ListStep.{ListStep}
-use Rattle.read_list.specs.declared.ListStep.TheVariants.{Listed, Refused}
 use Rattle.read_record.specs.Recorded.{replied, whole_record, end_replied, end_checked}
 
 -- the cursor past what was read does not depend on what it is made into
@@ -62,55 +58,47 @@ module _ (l : List ℕ) where
         (λ p left w. (rest_place l at (phases_bytes p) left inside w.written).0)
         (phases_as_written has (length l) h (drop at l) (below_drop 256 at l (bytes_of l (λ i. (known i).fits))))
 
-    pub phased_ends : (r : ListStep) → r ≡ stepped (length l) (read_phase_track (length l) h (drop at l))
-        → (reply : Reply) → reply ≡ whole_record (length l) r → reply ≡ end_checked true h l at
+    pub phased_ends : (r : Result Cursor Refusal) → r ≡ stepped (length l) (read_phase_track (length l) h (drop at l))
+        → (reply : Result ⊤ Refusal) → reply ≡ whole_record (length l) r → reply ≡ end_checked true h l at
     unfolding end_checked
     phased_ends r e reply d =
         d ∙ ap (whole_record (length l)) (e ∙ sym (stepped_map (length l) phased (read_phase_track (length l) h (drop at l))))
         ∙ ends_as (map_out phased (read_phase_track (length l) h (drop at l))) (phases_within true)
 
-    pub plain_ends : (type : ℕ) (b : Bool) → b ≡ type_phased type → b ≡ false → (reply : Reply)
-        → reply ≡ whole_record (length l) (Listed (cursor_at at)) → reply ≡ end_checked (type_phased type) h l at
+    pub plain_ends : (type : ℕ) (b : Bool) → b ≡ type_phased type → b ≡ false → (reply : Result ⊤ Refusal)
+        → reply ≡ whole_record (length l) (Ok (cursor_at at)) → reply ≡ end_checked (type_phased type) h l at
     unfolding end_checked
     plain_ends type b q t reply d =
         rw (← q, t)
-        (d ∙ ap (λ (i : ℕ). whole_record (length l) (Listed (cursor_at i))) (sym place) ∙ ends_as (ok no_phases (drop at l)) (phases_within false))
+        (d ∙ ap (λ (i : ℕ). whole_record (length l) (Ok (cursor_at i))) (sym place) ∙ ends_as (ok no_phases (drop at l)) (phases_within false))
       where
         place : length l - length (drop at l) ≡ at
         place = omega (arith, length-drop at l, inside)
 
 -- ---- the ways out of `past_phases`, `check_phased_end`, `check_end`
 
-module _ (l : List ℕ) (at h : ℕ) (got : PackedStep) (told : got ≡ phases_at h l at) where
+module _ (l : List ℕ) (at h : ℕ) (got : Result Cursor Refusal) (told : got ≡ phases_at h l at) where
   abbrev phase_track : Out PhaseTrack
   phase_track = read_phase_track (length l) h (drop at l)
 
-  pub phases_refused : (why : Refusal) → got ≡ NotPacked why → Refused why ≡ stepped (length l) phase_track
+  pub phases_passed : got ≡ stepped (length l) phase_track
   unfolding phases_at
-  phases_refused why q = go phase_track (sym told ∙ q)
+  phases_passed = told ∙ go phase_track
     where
-      go : (m : Out PhaseTrack) → phases_step (length l) m ≡ NotPacked why → Refused why ≡ stepped (length l) m
-      go (ok t left) e = absurd (let z : ◌≡◌ {A = ℕ} 0 1 = cc in omega arith)
-      go (refused because) e = cc
-
-  pub phases_passed : (next : Cursor) → got ≡ Next next → Listed next ≡ stepped (length l) phase_track
-  unfolding phases_at
-  phases_passed next q = go phase_track (sym told ∙ q)
-    where
-      go : (m : Out PhaseTrack) → phases_step (length l) m ≡ Next next → Listed next ≡ stepped (length l) m
-      go (ok t left) e = cc
-      go (refused because) e = absurd (let z : ◌≡◌ {A = ℕ} 0 1 = cc in omega arith)
+      go : (m : Out PhaseTrack) → phases_step (length l) m ≡ stepped (length l) m
+      go (ok t left) = refl
+      go (refused why) = refl
 
 -- H is no more than there are samples
 pub few_calls : (n : ℕ) (row : List ℕ) (h : ℕ) → n ≤ most_samples → n ≤ length row → h ≡ heterozygous_count (take n row) → h ≤ most_samples
 few_calls n row h few long e = omega (arith, e, heterozygous_count_most (take n row), length-take-le n row long)
 
 pub by_type : (l : List ℕ) (at n : ℕ) (row : List ℕ) (type : ℕ) (b : Bool) → b ≡ type_phased type → b ≡ true
-    → (h : ℕ) → h ≡ heterozygous_count (take n row) → (reply : Reply) → reply ≡ end_checked true h l at
+    → (h : ℕ) → h ≡ heterozygous_count (take n row) → (reply : Result ⊤ Refusal) → reply ≡ end_checked true h l at
     → reply ≡ end_checked (type_phased type) (heterozygous_count (take n row)) l at
 by_type l at n row type b q t h e reply d = rw (← q, t, ← e) d
 
-pub ruleset end_laws = (phased_ends, plain_ends, phases_refused, phases_passed, few_calls, by_type)
+pub ruleset end_laws = (phased_ends, plain_ends, phases_passed, few_calls, by_type)
 
 -- ---- joined to the format's reading
 

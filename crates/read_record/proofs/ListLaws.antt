@@ -1,5 +1,6 @@
 -- A list put into a row whose first n bytes are known: kinds 1, 4, 6 and 7.
 -- Assumes nothing.
+use Rattle.std.specs.Prelude.{Result, Ok, Err}
 use mathlib.Core.Path.{◌≡◌, refl, ◌∙◌}
 use Prim.Native.Nat.{ℕ, ◌≤◌}
 use native.Mathlib.Omega.{arith}
@@ -12,20 +13,17 @@ use Rattle.format.specs.declared.Refusal.{Refusal}
 use Rattle.format.specs.Base.{Out, ok, refused, bind, map_out}
 use Rattle.format.specs.Packed.{one, read_packed}
 use Rattle.format.specs.Difflist.{Entry, number_width, read_list}
-use Rattle.format.specs.Track.{against_category, sparse, rule, off_category, apply, read_listed, read_kind, track_categories}
+use Rattle.format.specs.declared.Kind.TheVariants.{AgainstCategory}
+use Rattle.format.specs.Track.{sparse, rule, off_category, apply, read_listed, read_kind, track_categories}
 use Rattle.base_cursor.specs.declared.Cursor.{Cursor}
 use Rattle.head_index.specs.NumbersAt.{digits_at}
 use Rattle.read_packed.specs.Unpacked.{packed_step, array_at, unpacked, unpacked_one, of_pair, unpack_left}
-use Rattle.read_packed.specs.declared.PackedStep.{PackedStep}
-use Rattle.read_packed.specs.declared.PackedStep.TheVariants.{Next, Refused as NotPacked}
 use Rattle.head_index.proofs.ByIndex.{digits_length}
 use Rattle.read_packed.proofs.CheckLaws.{Accepted, was_accepted}
 use Rattle.read_list.specs.Entries.{ListLeft, list_left}
 use Rattle.read_list.specs.Listed.{may_hold, list_replied, listed}
 use Rattle.read_list.specs.declared.ListRule.{ListRule}
 use Rattle.read_list.specs.declared.ListRule.TheVariants.{OffPair}
-use Rattle.read_list.specs.declared.ListStep.{ListStep}
-use Rattle.read_list.specs.declared.ListStep.TheVariants.{Refused}
 use Rattle.read_record.specs.Rows.{wiped, stored, kind_categories, tracked, off_both, pair_categories}
 use Rattle.read_record.proofs.RuleLaws.{list_same, off_one}
 use Rattle.read_record.proofs.RowLaws.{rest_of, zero_rest}
@@ -51,8 +49,8 @@ module _ (l : List ℕ) (start n category : ℕ) (row mid : List ℕ) (filled : 
   sparse_through (ok es left) = refl
   sparse_through (refused why) = refl
 
-  pub sparse_stored : (r : ListStep) (new : List ℕ) → list_left r new ≡ listed (OffPair category category) n l start mid
-      → wiped n (list_left r new) ≡ tracked (against_category category) n l start row
+  pub sparse_stored : (r : Result Cursor Refusal) (new : List ℕ) → list_left r new ≡ listed (OffPair category category) n l start mid
+      → wiped n (list_left r new) ≡ tracked (AgainstCategory category) n l start row
   unfolding kind_categories read_kind read_listed
   sparse_stored r new e =
       let t : take n mid ≡ replicate n category = rw filled (take_at (replicate n category) (drop n row) n (length-replicate n category)) in
@@ -66,7 +64,8 @@ module _ (l : List ℕ) (start n category : ℕ) (row mid : List ℕ) (filled : 
 -- ---- kind 1, after its pair code
 
 -- `got` is what the bits were, in a row that holds their categories now
-module _ (l : List ℕ) (at n lower higher : ℕ) (row mid : List ℕ) (got : PackedStep) (told : unpack_left got mid ≡ unpacked_one lower higher n l at row) where
+module _ (l : List ℕ) (at n lower higher : ℕ) (row mid : List ℕ) (got : Result Cursor Refusal)
+    (told : unpack_left got mid ≡ unpacked_one lower higher n l at row) where
   abbrev read : Out (List ℕ)
   read = read_packed (length l) one n (drop at l)
 
@@ -77,23 +76,23 @@ module _ (l : List ℕ) (at n lower higher : ℕ) (row mid : List ℕ) (got : Pa
   unfolding unpacked_one
   was_unpacked = told
 
-  pub bits_refused : (why : Refusal) → got ≡ NotPacked why
-      → wiped n (list_left (Refused why) mid) ≡ stored (length l) n row (pair_categories lower higher n l at)
+  pub bits_refused : (why : Refusal) → got ≡ Err why
+      → wiped n (list_left (Err why) mid) ≡ stored (length l) n row (pair_categories lower higher n l at)
   unfolding pair_categories
   bits_refused why e = through read was_unpacked
     where
       through : (m : Out (List ℕ)) → Unpacked m
-          → list_left (Refused why) (replicate n 0 ++ drop n mid) ≡ stored (length l) n row (bind m (λ bits left.
+          → list_left (Err why) (replicate n 0 ++ drop n mid) ≡ stored (length l) n row (bind m (λ bits left.
           map_out (λ es. apply es (map (of_pair lower higher) bits)) (read_list (rule n (off_both lower higher)) (number_width n) (length l) left)))
       through (ok vs left) q = absurd (let z : ◌≡◌ {A = ℕ} 0 1 = cc in omega arith)
       through (refused because) q = cc
 
-  module _ (next : Cursor) (e : got ≡ Next next) (known : (i : ℕ) → Fits w8 (get_or l i 0)) (h : at ≤ length l) where
-    bits_step : Next next ≡ array_at one n l at
+  module _ (next : Cursor) (e : got ≡ Ok next) (known : (i : ℕ) → Fits w8 (get_or l i 0)) (h : at ≤ length l) where
+    bits_step : Ok next ≡ array_at one n l at
     unfolding array_at
     bits_step = through read was_unpacked
       where
-        through : (m : Out (List ℕ)) → Unpacked m → Next next ≡ packed_step (length l) m
+        through : (m : Out (List ℕ)) → Unpacked m → Ok next ≡ packed_step (length l) m
         through (ok vs left) q = cc
         through (refused why) q = absurd (let z : ◌≡◌ {A = ℕ} 0 1 = cc in omega arith)
 
@@ -109,7 +108,7 @@ module _ (l : List ℕ) (at n lower higher : ℕ) (row mid : List ℕ) (got : Pa
     bits_row : mid ≡ map (of_pair lower higher) bits ++ drop n row
     bits_row = let q : Unpacked (ok bits (drop next.at l)) = rw accepted.reads at was_unpacked in cc
 
-    pub bits_listed : (r : ListStep) (new : List ℕ) → list_left r new ≡ listed (OffPair lower higher) n l next.at mid
+    pub bits_listed : (r : Result Cursor Refusal) (new : List ℕ) → list_left r new ≡ listed (OffPair lower higher) n l next.at mid
         → wiped n (list_left r new) ≡ stored (length l) n row (pair_categories lower higher n l at)
     unfolding pair_categories
     bits_listed r new d =

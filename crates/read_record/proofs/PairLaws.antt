@@ -1,28 +1,23 @@
 -- A track of kind 1 read into a row: its pair code, then its bits and its list.
 -- Assumes nothing.
+use Rattle.std.specs.Prelude.{Result, Ok, Err}
 use mathlib.Core.Path.{◌≡◌, refl}
 use Prim.Native.Nat.{ℕ}
 use mathlib.Core.List.{List, map, map-map}
 use lib.ListN.{length, take, drop}
 use Rattle.format.specs.declared.Refusal.{Refusal}
-use Rattle.format.specs.Base.{Out, ok, refused, refusal, bind, map_out}
+use Rattle.format.specs.Base.{Out, ok, refused, bind, map_out}
 use Rattle.format.specs.Packed.{one, read_packed}
 use Rattle.format.specs.Difflist.{Entry, number_width, read_list}
-use Rattle.format.specs.PairCode.{PairCode, pair, category_of, found}
-use Rattle.format.specs.Track.{paired, one_bit, rule, off_pair, apply, bit_set, read_listed, read_kind, track_categories}
+use Rattle.format.specs.PairCode.{PairCode, pair, category_of}
+use Rattle.format.specs.declared.Kind.TheVariants.{Paired}
+use Rattle.format.specs.Track.{one_bit, rule, off_pair, apply, bit_set, read_listed, read_kind, track_categories}
 use Rattle.format.specs.declared.Pair.{Pair}
-use Rattle.format.specs.declared.PairFound.{PairFound}
-use Rattle.format.specs.declared.PairFound.TheVariants.{Known, Unknown}
 use Rattle.base_cursor.specs.declared.Cursor.{Cursor}
-use Rattle.base_cursor.specs.Steps.{byte_at}
-use Rattle.base_cursor.specs.declared.ByteStep.{ByteStep}
-use Rattle.base_cursor.specs.declared.ByteStep.TheVariants.{Byte, Refused as NoByte}
 use Rattle.read_packed.specs.Unpacked.{of_pair}
 use Rattle.read_list.specs.Entries.{list_left}
-use Rattle.read_list.specs.declared.ListStep.{ListStep}
-use Rattle.read_list.specs.declared.ListStep.TheVariants.{Refused}
-use Rattle.read_record.specs.Rows.{wiped, stored, kind_categories, tracked, off_both, pair_categories}
-use Rattle.read_record.proofs.CodeLaws.{code_inside, UnderCode, code_missing, code_unknown, code_known}
+use Rattle.read_record.specs.Rows.{wiped, stored, pair_at, kind_categories, tracked, off_both, pair_categories}
+use Rattle.read_record.proofs.CodeLaws.{UnderCode, no_pair, pair_under, pair_inside}
 
 -- the bits and the list under a known code
 module _ (l : List ℕ) (n : ℕ) (row : List ℕ) (c : PairCode) where
@@ -40,24 +35,19 @@ module _ (l : List ℕ) (n : ℕ) (row : List ℕ) (c : PairCode) where
   bits_through (ok bits left) = listed_through bits (read_list (rule n (off_pair c)) (number_width n) (length l) left)
   bits_through (refused why) = refl
 
--- `got` is what the byte was
-module _ (l : List ℕ) (start n : ℕ) (row : List ℕ) (got : ByteStep) (told : got ≡ byte_at l start) where
-  pub no_code : (why : Refusal) → got ≡ NoByte why → wiped n (list_left (Refused why) row) ≡ tracked paired n l start row
+-- ---- the ways out of `read_pair`: `got` is what its pair code was
+
+module _ (l : List ℕ) (start n : ℕ) (row : List ℕ) (got : Result (Pair × Cursor) Refusal) (told : got ≡ pair_at l start) where
+  pub no_code : (why : Refusal) → got ≡ Err why → wiped n (list_left (Err why) row) ≡ tracked Paired n l start row
   unfolding kind_categories
-  no_code why e = rw (code_missing l start n (take n row) got told why e)
+  no_code why e = rw (no_pair l start n (take n row) got told why e)
 
-  module _ (code : ℕ) (next : Cursor) (e : got ≡ Byte code next) (f : PairFound) (g : f ≡ found code) where
-    pub unknown_code : f ≡ Unknown → (why : Refusal) → why ≡ refusal 14 start → wiped n (list_left (Refused why) row) ≡ tracked paired n l start row
-    unfolding kind_categories
-    unknown_code u why w = rw (w, code_unknown l start n (take n row) got told code next e f g u)
+  pub known_code : (p : Pair) (next : Cursor) → got ≡ Ok (p, next) → (r : Result Cursor Refusal) (new : List ℕ)
+      → wiped n (list_left r new) ≡ stored (length l) n row (pair_categories p.lower p.higher n l next.at)
+      → wiped n (list_left r new) ≡ tracked Paired n l start row
+  unfolding kind_categories pair_categories
+  known_code p next e r new d =
+      let u : UnderCode l n p next.at (read_kind (length l) n (take n row) Paired (drop start l)) = pair_under l start n (take n row) got told p next e in
+      rw (u.reads, bits_through l n row u.code (read_packed (length l) one n (drop next.at l))) (rw u.is at d)
 
-    pub known_code : (p : Pair) → f ≡ Known p → (r : ListStep) (new : List ℕ)
-        → wiped n (list_left r new) ≡ stored (length l) n row (pair_categories p.lower p.higher n l next.at)
-        → wiped n (list_left r new) ≡ tracked paired n l start row
-    unfolding kind_categories pair_categories
-    known_code p q r new d =
-        let u : UnderCode l n p next.at (read_kind (length l) n (take n row) paired (drop start l))
-        = code_known l start n (take n row) got told code next e f g p q in
-        rw (u.reads, bits_through l n row u.code (read_packed (length l) one n (drop next.at l))) (rw u.is at d)
-
-pub ruleset pair_laws = (code_inside, no_code, unknown_code, known_code)
+pub ruleset pair_laws = (pair_inside, no_code, known_code)

@@ -1,5 +1,6 @@
 -- A record whose phases are read too: its tracks into the row, then its phases into the output.
 -- Assumes nothing.
+use Rattle.std.specs.Prelude.{Result, Ok, Err}
 use mathlib.Core.Path.{◌≡◌, refl, sym, ap, ap₂, ◌∙◌}
 use Prim.Native.Nat.{ℕ, ◌-◌, ◌≤◌}
 use native.Mathlib.Omega.{arith}
@@ -10,7 +11,6 @@ use lib.Seq.{take_at, length-take-le}
 use mir.Syntax.{w8}
 use mir.Val.{Fits as Bounded}
 use Rattle.format.specs.declared.Refusal.{Refusal}
-use Rattle.format.specs.declared.Reply.TheVariants.{Accepted, Refused as NotAccepted}
 use Rattle.format.specs.Base.{pick, Out, ok, refused, bind, map_out}
 use Rattle.format.specs.Track.{kind, Track, track_bytes, read_kind, track_categories}
 use Rattle.format.specs.Phase.{heterozygous_count, PhaseTrack, read_phase_track, Phases, no_phases, phased, read_phases, phases_over}
@@ -20,8 +20,6 @@ use Rattle.format.proofs.TrackLaws.{IsTrack}
 use Rattle.base_cursor.specs.declared.Cursor.{Cursor}
 use Rattle.read_phase.specs.Phases.{PhasesThere, track_put, phases_put}
 use Rattle.read_list.specs.Entries.{list_left}
-use Rattle.read_list.specs.declared.ListStep.{ListStep}
-use Rattle.read_list.specs.declared.ListStep.TheVariants.{Listed, Refused}
 use Rattle.read_record.specs.Recorded.{after_replied, main_replied, tracks_read, AfterThere, after_put}
 use Rattle.read_record.specs.Recorded.{phased_left, phased_replied, phased_recorded}
 use Rattle.read_record.proofs.EndLaws.{rest_place}
@@ -49,7 +47,7 @@ pub ruleset after_laws = (put_phased, put_none, there_phased, there_inside)
 -- ---- the ways out of `read_phased`
 
 module _ (l : List ℕ) (start n type : ℕ) (row : List ℕ) (known : (i : ℕ) → Bounded w8 (get_or l i 0)) (h : n ≤ length row) (a : start ≤ length l)
-    (r : ListStep) (new : List ℕ) (told : list_left r new ≡ tracks_read n type l start row) where
+    (r : Result Cursor Refusal) (new : List ℕ) (told : list_left r new ≡ tracks_read n type l start row) where
   abbrev main_read : Out Track
   main_read = read_kind (length l) n (take n row) (kind (kind_of type)) (drop start l)
 
@@ -65,17 +63,17 @@ module _ (l : List ℕ) (start n type : ℕ) (row : List ℕ) (known : (i : ℕ)
   abbrev Left : Out Track → Type 0
   Left m = list_left r new ≡ main_replied (length l) n type row m
 
-  pub phased_refused : (why : Refusal) → r ≡ Refused why → (output : List ℕ)
-      → phased_left (NotAccepted why) new output ≡ phased_recorded n type l start row output
+  pub phased_refused : (why : Refusal) → r ≡ Err why → (output : List ℕ)
+      → phased_left (Err why) new output ≡ phased_recorded n type l start row output
   unfolding phased_recorded read_body tracks_read
   phased_refused why q output = through main_read told
     where
       after : (t : Track) (left : List ℕ) (m : Out Body) → list_left r new ≡ after_replied (length l) n row t left m
-          → phased_left (NotAccepted why) new output ≡ phased_replied n row output m
+          → phased_left (Err why) new output ≡ phased_replied n row output m
       after t left (ok body left₁) e = absurd (let z : ◌≡◌ {A = ℕ} 0 1 = cc in omega arith)
       after t left (refused because) e = cc
 
-      through : (m : Out Track) → Left m → phased_left (NotAccepted why) new output ≡ phased_replied n row output (whole m)
+      through : (m : Out Track) → Left m → phased_left (Err why) new output ≡ phased_replied n row output (whole m)
       through (refused because) e = cc
       through (ok t left) e = after t left (ended_body t (phases_read t left)) e
 
@@ -92,7 +90,7 @@ module _ (l : List ℕ) (start n type : ℕ) (row : List ℕ) (known : (i : ℕ)
     own : take n new ≡ track_categories n (take n row) t
     long : n ≤ length new
 
-  module _ (c : Cursor) (q : r ≡ Listed c) where
+  module _ (c : Cursor) (q : r ≡ Ok c) where
     accepting : Accepting c
     unfolding tracks_read
     accepting = through main_read refl told (was_read l start n type (take n row) known)
@@ -169,10 +167,10 @@ module _ (l : List ℕ) (start n type : ℕ) (row : List ℕ) (known : (i : ℕ)
             rw (← z, count) refl
 
     pub phased_accepted : (output last : List ℕ) → last ≡ after_put n type l c.at new output
-        → phased_left Accepted new last ≡ phased_recorded n type l start row output
+        → phased_left (Ok tt) new last ≡ phased_recorded n type l start row output
     unfolding phased_recorded read_body
     phased_accepted output last g =
-        ap₂ (phased_left Accepted) is.row_is (g ∙ put_is output)
+        ap₂ (phased_left (Ok tt)) is.row_is (g ∙ put_is output)
         ∙ sym (ap (λ (m : Out Track). phased_replied n row output (whole m)) is.is_track
         ∙ ap (λ (m : Out Phases). phased_replied n row output (ended_body is.t m)) is.are_phases)
 

@@ -1,8 +1,8 @@
 -- What each way out of the functions of the code says, from what they were told.
 -- Assumes nothing.
+use Rattle.std.specs.Prelude.{Result, Ok, Err}
 use mathlib.Core.Path.{◌≡◌, refl, sym, ◌∙◌}
 use Prim.Native.Nat.{ℕ, ◌≤◌}
-use native.Mathlib.Omega.{arith}
 use mathlib.Core.Bool.{Bool, true, false}
 use mathlib.Core.List.{List, ◌++◌}
 use lib.ListN.{length, take, drop, replicate, length-replicate, take-append-drop}
@@ -12,17 +12,14 @@ use Rattle.format.specs.Base.{Out, ok, refused, map_out}
 use Rattle.format.specs.Category.{exchange_all}
 use Rattle.format.specs.Packed.{two, read_packed}
 use Rattle.format.specs.Difflist.{Entry, number_width, read_list}
-use Rattle.format.specs.Track.{array, against_anchor, plain, leaning, rule, off_anchor, apply, read_listed, read_kind, track_categories}
+use Rattle.format.specs.declared.Kind.TheVariants.{Array, AgainstAnchor}
+use Rattle.format.specs.Track.{plain, leaning, rule, off_anchor, apply, read_listed, read_kind, track_categories}
 use Rattle.format.proofs.CategoryLaws.{exchange_all_none, exchange_all_length}
 use Rattle.format.specs.Reply.{emptied}
 use Rattle.format.proofs.RowLaws.{apply_length}
 use Rattle.read_packed.specs.Unpacked.{unpacked, unpacked_two, unpack_left}
-use Rattle.read_packed.specs.declared.PackedStep.{PackedStep}
-use Rattle.read_packed.specs.declared.PackedStep.TheVariants.{Next, Refused as NotPacked}
 use Rattle.read_list.specs.Entries.{list_left}
 use Rattle.read_list.specs.Listed.{list_replied, listed}
-use Rattle.read_list.specs.declared.ListStep.{ListStep}
-use Rattle.read_list.specs.declared.ListStep.TheVariants.{Listed, Refused}
 use Rattle.read_list.specs.declared.ListRule.TheVariants.{OffRow}
 use Rattle.base_cursor.specs.declared.Cursor.{Cursor}
 use Rattle.base_cursor.specs.Steps.{before}
@@ -37,7 +34,7 @@ zero_rest n row = rest_of n (replicate n 0) row (length-replicate n 0)
 
 -- ---- kind 0
 
-module _ (l : List ℕ) (start n : ℕ) (row new : List ℕ) (r : PackedStep) (told : unpack_left r new ≡ unpacked_two n l start row) where
+module _ (l : List ℕ) (start n : ℕ) (row new : List ℕ) (r : Result Cursor Refusal) (told : unpack_left r new ≡ unpacked_two n l start row) where
   abbrev packed : Out (List ℕ)
   packed = read_packed (length l) two n (drop start l)
 
@@ -45,7 +42,7 @@ module _ (l : List ℕ) (start n : ℕ) (row new : List ℕ) (r : PackedStep) (t
   array_through (ok vs left) = refl
   array_through (refused why) = refl
 
-  array_is : kind_categories n row array l start ≡ packed
+  array_is : kind_categories n row Array l start ≡ packed
   unfolding kind_categories read_kind
   array_is = array_through packed
 
@@ -56,26 +53,24 @@ module _ (l : List ℕ) (start n : ℕ) (row new : List ℕ) (r : PackedStep) (t
   unfolding unpacked_two
   was_unpacked = told
 
-  pub array_next : (c : Cursor) → r ≡ Next c → wiped n (list_left (Listed c) new) ≡ tracked array n l start row
-  array_next c e = rw array_is (through packed was_unpacked)
+  pub array_left : wiped n (list_left r new) ≡ tracked Array n l start row
+  array_left = rw array_is (through packed was_unpacked)
     where
-      through : (m : Out (List ℕ)) → Unpacked m → list_left (Listed c) new ≡ stored (length l) n row m
-      through (ok vs left) q = cc
-      through (refused why) q = absurd (let z : ◌≡◌ {A = ℕ} 0 1 = cc in omega arith)
+      through : (m : Out (List ℕ)) → Unpacked m → wiped n (list_left r new) ≡ stored (length l) n row m
+      through (ok vs left) q =
+          let e : r ≡ Ok (before (length l) left) = cc in
+          let f : new ≡ vs ++ drop n row = cc in
+          rw (e, f)
+      through (refused why) q =
+          let e : r ≡ Err why = cc in
+          let f : new ≡ row = cc in
+          rw (e, f)
 
-  pub array_refused : (why : Refusal) → r ≡ NotPacked why
-      → wiped n (list_left (Refused why) new) ≡ tracked array n l start row
-  array_refused why e = rw array_is (through packed was_unpacked)
-    where
-      through : (m : Out (List ℕ)) → Unpacked m → list_left (Refused why) (replicate n 0 ++ drop n new) ≡ stored (length l) n row m
-      through (ok vs left) q = absurd (let z : ◌≡◌ {A = ℕ} 0 1 = cc in omega arith)
-      through (refused because) q = cc
-
-pub ruleset array_laws = (array_next, array_refused)
+pub ruleset array_laws = (array_left)
 
 -- ---- kinds 2 and 3
 
-module _ (l : List ℕ) (start n : ℕ) (inverted : Bool) (row : List ℕ) (h : n ≤ length row) (r : ListStep) (mid : List ℕ)
+module _ (l : List ℕ) (start n : ℕ) (inverted : Bool) (row : List ℕ) (h : n ≤ length row) (r : Result Cursor Refusal) (mid : List ℕ)
     (told : list_left r mid ≡ listed OffRow n l start row) where
   abbrev read : Out (List Entry)
   read = read_list (rule n (off_anchor (take n row))) (number_width n) (length l) (drop start l)
@@ -87,7 +82,7 @@ module _ (l : List ℕ) (start n : ℕ) (inverted : Bool) (row : List ℕ) (h : 
   leaning_through (ok es left) = refl
   leaning_through (refused why) = refl
 
-  leaning_is : kind_categories n row (against_anchor inverted) l start ≡ map_out categories read
+  leaning_is : kind_categories n row (AgainstAnchor inverted) l start ≡ map_out categories read
   unfolding kind_categories read_kind read_listed
   leaning_is = leaning_through read
 
@@ -102,7 +97,7 @@ module _ (l : List ℕ) (start n : ℕ) (inverted : Bool) (row : List ℕ) (h : 
   was_told = told
 
   -- the row that the list was put into, exchanged if the kind is inverted
-  pub leaning_turned : (new : List ℕ) → new ≡ turned inverted n mid → wiped n (list_left r new) ≡ tracked (against_anchor inverted) n l start row
+  pub leaning_turned : (new : List ℕ) → new ≡ turned inverted n mid → wiped n (list_left r new) ≡ tracked (AgainstAnchor inverted) n l start row
   leaning_turned new g = rw leaning_is (through read was_told)
     where
       cleared_rest : mid ≡ emptied n row → drop n (turned inverted n mid) ≡ drop n row
@@ -113,13 +108,13 @@ module _ (l : List ℕ) (start n : ℕ) (inverted : Bool) (row : List ℕ) (h : 
 
       through : (m : Out (List Entry)) → Told m → wiped n (list_left r new) ≡ stored (length l) n row (map_out categories m)
       through (ok es left) p =
-          let q : r ≡ Listed (before (length l) left) = cc in
+          let q : r ≡ Ok (before (length l) left) = cc in
           let e : mid ≡ apply es (take n row) ++ drop n row = cc in
           let t : take n mid ≡ apply es (take n row) = rw e (take_at (apply es (take n row)) (drop n row) n (applied_length es)) in
           let d : drop n mid ≡ drop n row = rw e (rest_of n (apply es (take n row)) row (applied_length es)) in
           rw (q, g, t, d)
       through (refused why) p =
-          let q : r ≡ Refused why = cc in
+          let q : r ≡ Err why = cc in
           let e : mid ≡ emptied n row = cc in
           rw (q, g, cleared_rest e)
 

@@ -1,28 +1,32 @@
 -- What the functions of the code answer before a refusal has cleared the row.
 -- Assumes nothing.
-use Rattle.std.specs.Prelude.{ℕ, Bool, List, [], ◌++◌, map, length, take, drop}
-use Rattle.format.specs.Base.{Out, ok, refused, bind, map_out}
+use Rattle.std.specs.Prelude.{ℕ, Bool, List, [], ◌++◌, map, length, take, drop, Option, Some, None, Result, Ok, Err}
+use Rattle.format.specs.declared.Pair.{Pair}
+use Rattle.format.specs.declared.Refusal.{Refusal}
+use Rattle.format.specs.Base.{Out, ok, refused, refusal, bind, map_out}
+use Rattle.format.specs.PairCode.{found}
 use Rattle.format.specs.Category.{exchange_all}
 use Rattle.format.specs.Packed.{one, read_packed}
 use Rattle.format.specs.Difflist.{number_width, read_list}
-use Rattle.format.specs.Track.{Kind, rule, apply, read_kind, track_categories}
+use Rattle.format.specs.declared.Kind.{Kind}
+use Rattle.format.specs.Track.{rule, apply, read_kind, track_categories}
 use Rattle.format.specs.Reply.{emptied}
-use Rattle.base_cursor.specs.Steps.{before}
+use Rattle.base_cursor.specs.declared.Cursor.{Cursor}
+use Rattle.base_cursor.specs.Steps.{before, byte_at}
 use Rattle.read_packed.specs.Unpacked.{of_pair}
 use Rattle.read_list.specs.Entries.{ListLeft, list_left}
 use Rattle.read_list.specs.Listed.{may_hold}
 use Rattle.read_list.specs.declared.ListRule.TheVariants.{OffPair}
-use Rattle.read_list.specs.declared.ListStep.TheVariants.{Listed, Refused}
 
 -- the row's first n bytes zero after a refusal
 abbrev pub wiped : ℕ → ListLeft → ListLeft
-wiped n (list_left (Listed c) row) = list_left (Listed c) row
-wiped n (list_left (Refused why) row) = list_left (Refused why) (emptied n row)
+wiped n (list_left (Ok c) row) = list_left (Ok c) row
+wiped n (list_left (Err why) row) = list_left (Err why) (emptied n row)
 
 -- categories in the row's first n bytes; after a refusal they are zero
 abbrev pub stored : ℕ → ℕ → List ℕ → Out (List ℕ) → ListLeft
-stored end n row (ok categories left) = list_left (Listed (before end left)) (categories ++ drop n row)
-stored end n row (refused why) = list_left (Refused why) (emptied n row)
+stored end n row (ok categories left) = list_left (Ok (before end left)) (categories ++ drop n row)
+stored end n row (refused why) = list_left (Err why) (emptied n row)
 
 -- the categories of a track of a kind at `start`, over the row that holds its anchor's
 unfoldable pub kind_categories : ℕ → List ℕ → Kind → List ℕ → ℕ → Out (List ℕ)
@@ -34,6 +38,18 @@ tracked k n l start row = stored (length l) n row (kind_categories n row k l sta
 -- what a list off two categories may hold: it is against no row
 abbrev pub off_both : ℕ → ℕ → ℕ → ℕ → Bool
 off_both lower higher = may_hold (OffPair lower higher) []
+
+-- "Kind 1: a pair code": its pair, with the cursor past it. 14, "pair code unknown", at "that byte"
+abbrev pub pair_found : ℕ → Cursor → Option Pair → Result (Pair × Cursor) Refusal
+pair_found at next (Some p) = Ok (p, next)
+pair_found at next None = Err (refusal 14 at)
+
+abbrev pub pair_step : ℕ → Result (ℕ × Cursor) Refusal → Result (Pair × Cursor) Refusal
+pair_step at (Ok (code, next)) = pair_found at next (found code)
+pair_step at (Err why) = Err why
+
+unfoldable pub pair_at : List ℕ → ℕ → Result (Pair × Cursor) Refusal
+pair_at l at = pair_step at (byte_at l at)
 
 -- the bits and the list of a track of kind 1, after its pair code
 unfoldable pub pair_categories : ℕ → ℕ → ℕ → List ℕ → ℕ → Out (List ℕ)

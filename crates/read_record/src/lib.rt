@@ -4,32 +4,26 @@
 
 ghost use Rattle.std.specs.Prelude.{◌≡◌, true, ◌≤◌, ◌<◌, length, take, drop};
 ghost use Rattle.format.specs.Phase.{heterozygous_count, read_phase_track};
-ghost use Rattle.format.specs.Body.{kind_of, type_phased};
+ghost use Rattle.format.specs.Body.{type_phased};
 ghost use Rattle.format.specs.Limits.{most_samples};
-ghost use Rattle.format.specs.Track.{array, paired, against_anchor, against_category, kind};
 ghost use Rattle.read_list.specs.Entries.{list_left, Lists};
-ghost use Rattle.read_record.specs.Rows.{wiped, stored, pair_categories, tracked, turned};
+ghost use Rattle.read_record.specs.Rows.{wiped, stored, pair_at, pair_categories, tracked, turned};
 ghost use Rattle.read_list.specs.Checked.{stepped};
 ghost use Rattle.read_record.specs.Recorded.{whole_record, end_checked, tracks_read, record_left, recorded};
 ghost use Rattle.read_record.specs.Recorded.{AfterThere, after_put, phased_left, phased_recorded};
 
-use base_cursor::{ByteStep, Cursor};
-use format::{PairFound, Reply, refusal_at};
+use base_cursor::Cursor;
+use format::{Kind, Pair, Refusal, refusal_at};
 use head_types::{kind_of, type_phased};
-use read_list::{ListRule, ListStep};
-use read_packed::PackedStep;
+use read_list::ListRule;
 use read_phase::{check_phases, heterozygous_count, put_phases};
 
 // "Kind 0: the packed array."
-fn read_array(s: &[u8], c: Cursor, n: usize, row: &mut [u8]) -> ListStep
+fn read_array(s: &[u8], c: Cursor, n: usize, row: &mut [u8]) -> Result<Cursor, Refusal>
     requires { (c.at ≤ length s.now) × (n ≤ most_samples) × (n ≤ length row.old) }
-    ensures { wiped n (list_left result row.new) ≡ tracked array n s.now c.at row.old }
+    ensures { wiped n (list_left result row.new) ≡ tracked Kind.Array n s.now c.at row.old }
 {
-    let got = read_packed::unpack_categories(s, c, n, row);
-    match got {
-        PackedStep::Refused(why) => ListStep::Refused(why),
-        PackedStep::Next(next) => ListStep::Listed(next),
-    }
+    read_packed::unpack_categories(s, c, n, row)
 }
 
 // "a bit per sample (set: the higher category of the pair), then a list of pairs for samples in the other two categories"
@@ -41,40 +35,34 @@ fn read_bits(
     higher: u8,
     known: bool,
     row: &mut [u8],
-) -> ListStep
+) -> Result<Cursor, Refusal>
     requires at_in_bounds { (c.at ≤ length s.now) × (n ≤ most_samples) × (n ≤ length row.old) }
     requires lists { known ≡ true → Lists (stored (length s.now) n row.old (pair_categories lower higher n s.now c.at)) }
     ensures { wiped n (list_left result row.new)
         ≡ stored (length s.now) n row.old (pair_categories lower higher n s.now c.at) }
 {
-    let got = read_packed::unpack_pair(s, c, n, lower, higher, row);
-    match got {
-        PackedStep::Refused(why) => ListStep::Refused(why),
-        PackedStep::Next(next) => {
-            read_list::put_list(s, n, ListRule::OffPair(lower, higher), known, next, row)
-        }
+    let next = read_packed::unpack_pair(s, c, n, lower, higher, row)?;
+    read_list::put_list(s, n, ListRule::OffPair(lower, higher), known, next, row)
+}
+
+// "Kind 1: a pair code". 14, "pair code unknown", at "that byte". Its pair, with the cursor past it.
+pub fn pair_at(s: &[u8], c: Cursor) -> Result<(Pair, Cursor), Refusal>
+    ensures { result ≡ pair_at s.now c.at }
+{
+    let (code, next) = c.byte(s)?;
+    match base_pairs::pair_of(code) {
+        None => Err(refusal_at(14, c.at)),
+        Some(pair) => Ok((pair, next)),
     }
 }
 
-// "Kind 1: a pair code". 14, "pair code unknown", at "that byte".
-fn read_pair(s: &[u8], c: Cursor, n: usize, known: bool, row: &mut [u8]) -> ListStep
+fn read_pair(s: &[u8], c: Cursor, n: usize, known: bool, row: &mut [u8]) -> Result<Cursor, Refusal>
     requires at_in_bounds { (c.at ≤ length s.now) × (n ≤ most_samples) × (n ≤ length row.old) }
-    requires lists { known ≡ true → Lists (tracked paired n s.now c.at row.old) }
-    ensures { wiped n (list_left result row.new) ≡ tracked paired n s.now c.at row.old }
+    requires lists { known ≡ true → Lists (tracked Kind.Paired n s.now c.at row.old) }
+    ensures { wiped n (list_left result row.new) ≡ tracked Kind.Paired n s.now c.at row.old }
 {
-    let got = c.byte(s);
-    match got {
-        ByteStep::Refused(why) => ListStep::Refused(why),
-        ByteStep::Byte(code, next) => {
-            let found = base_pairs::pair_of(code);
-            match found {
-                PairFound::Unknown => ListStep::Refused(refusal_at(14, c.at)),
-                PairFound::Known(pair) => {
-                    read_bits(s, next, n, pair.lower, pair.higher, known, row)
-                }
-            }
-        }
-    }
+    let (pair, next) = pair_at(s, c)?;
+    read_bits(s, next, n, pair.lower, pair.higher, known, row)
 }
 
 // The exchange of an inverted kind.
@@ -89,9 +77,15 @@ fn exchange_row_if(row: &mut [u8], n: usize, inverted: bool)
 
 // "Kind 2: a list against the anchor". "Kind 3: as kind 2, then 0 and 2 exchanged for all samples", so after the list: in kind 3 the listed
 // values are the ones before inversion.
-fn read_leaning(s: &[u8], c: Cursor, n: usize, inverted: bool, row: &mut [u8]) -> ListStep
+fn read_leaning(
+    s: &[u8],
+    c: Cursor,
+    n: usize,
+    inverted: bool,
+    row: &mut [u8],
+) -> Result<Cursor, Refusal>
     requires { (c.at ≤ length s.now) × (n ≤ most_samples) × (n ≤ length row.old) }
-    ensures { wiped n (list_left result row.new) ≡ tracked (against_anchor inverted) n s.now c.at row.old }
+    ensures { wiped n (list_left result row.new) ≡ tracked (Kind.AgainstAnchor inverted) n s.now c.at row.old }
 {
     let got = read_list::put_list(s, n, ListRule::OffRow, false, c, row);
     exchange_row_if(row, n, inverted);
@@ -99,70 +93,65 @@ fn read_leaning(s: &[u8], c: Cursor, n: usize, inverted: bool, row: &mut [u8]) -
 }
 
 // "Kinds 4, 6, 7: a list of the samples outside category 0, 2, 3": put into a row in that category, and off it, so that no value asks the row.
-fn read_sparse(s: &[u8], c: Cursor, n: usize, category: u8, known: bool, row: &mut [u8]) -> ListStep
+fn read_sparse(
+    s: &[u8],
+    c: Cursor,
+    n: usize,
+    category: u8,
+    known: bool,
+    row: &mut [u8],
+) -> Result<Cursor, Refusal>
     requires at_in_bounds { (c.at ≤ length s.now) × (n ≤ most_samples) × (n ≤ length row.old) }
-    requires lists { known ≡ true → Lists (tracked (against_category category) n s.now c.at row.old) }
-    ensures { wiped n (list_left result row.new) ≡ tracked (against_category category) n s.now c.at row.old }
+    requires lists { known ≡ true → Lists (tracked (Kind.AgainstCategory category) n s.now c.at row.old) }
+    ensures { wiped n (list_left result row.new) ≡ tracked (Kind.AgainstCategory category) n s.now c.at row.old }
 {
     base_rows::fill(row, n, category);
     read_list::put_list(s, n, ListRule::OffPair(category, category), known, c, row)
 }
 
-// The main track of the kind that has the number; the header lets only these kinds through (8). `known` tells that it was accepted before.
+// The main track of a kind. 8, "type not allowed", of no kind: the header lets no such record through. `known` tells that it was accepted before.
 pub fn read_track(
     s: &[u8],
     c: Cursor,
     n: usize,
-    number: u8,
+    kind: Kind,
     known: bool,
     row: &mut [u8],
-) -> ListStep
+) -> Result<Cursor, Refusal>
     requires at_in_bounds { (c.at ≤ length s.now) × (n ≤ most_samples) × (n ≤ length row.old) }
-    requires number_bound { (number < 8) × (number ≡ 5 → ⊥) }
-    requires lists { known ≡ true → Lists (tracked (kind number) n s.now c.at row.old) }
-    ensures { wiped n (list_left result row.new) ≡ tracked (kind number) n s.now c.at row.old }
+    requires lists { known ≡ true → Lists (tracked kind n s.now c.at row.old) }
+    ensures { wiped n (list_left result row.new) ≡ tracked kind n s.now c.at row.old }
 {
-    if number == 0 {
-        return read_array(s, c, n, row);
+    match kind {
+        Kind::Array => read_array(s, c, n, row),
+        Kind::Paired => read_pair(s, c, n, known, row),
+        Kind::AgainstAnchor(inverted) => read_leaning(s, c, n, inverted, row),
+        Kind::AgainstCategory(category) => read_sparse(s, c, n, category, known, row),
+        Kind::NoKind => Err(refusal_at(8, 0)),
     }
-    if number == 1 {
-        return read_pair(s, c, n, known, row);
-    }
-    if number < 4 {
-        return read_leaning(s, c, n, number == 3, row);
-    }
-    read_sparse(s, c, n, number - 4, known, row)
 }
 
 // 01, Replies: "Lastly 13". `got` is what the last track gave of a record that ends at `end`.
-pub fn whole_record(got: ListStep, end: usize) -> Reply
+pub fn whole_record(got: Result<Cursor, Refusal>, end: usize) -> Result<(), Refusal>
     ensures { result ≡ whole_record end got }
 {
-    match got {
-        ListStep::Refused(why) => Reply::Refused(why),
-        ListStep::Listed(next) => {
-            if next.at < end {
-                return Reply::Refused(refusal_at(13, next.at));
-            }
-            Reply::Accepted
-        }
+    let next = got?;
+    if next.at < end {
+        return Err(refusal_at(13, next.at));
     }
+    Ok(())
 }
 
 // 02, Ask 1: the phase track at `c`, over h heterozygous calls: the cursor past it.
-fn past_phases(s: &[u8], c: Cursor, h: usize) -> ListStep
+fn past_phases(s: &[u8], c: Cursor, h: usize) -> Result<Cursor, Refusal>
     requires { (c.at ≤ length s.now) × (h ≤ most_samples) }
     ensures { result ≡ stepped (length s.now) (read_phase_track (length s.now) h (drop c.at s.now)) }
 {
-    let got = check_phases(s, c, h);
-    match got {
-        PackedStep::Refused(why) => ListStep::Refused(why),
-        PackedStep::Next(next) => ListStep::Listed(next),
-    }
+    check_phases(s, c, h)
 }
 
 // The phase track at `c`, over h heterozygous calls, and nothing after it.
-pub fn check_phased_end(s: &[u8], c: Cursor, h: usize) -> Reply
+pub fn check_phased_end(s: &[u8], c: Cursor, h: usize) -> Result<(), Refusal>
     requires { (c.at ≤ length s.now) × (h ≤ most_samples) }
     ensures { result ≡ end_checked true h s.now c.at }
 {
@@ -170,53 +159,67 @@ pub fn check_phased_end(s: &[u8], c: Cursor, h: usize) -> Reply
 }
 
 // What follows the main track of a record of a type, whose own categories the row's first n bytes hold: its phase track if it has one, and nothing after it.
-fn check_end(s: &[u8], c: Cursor, n: usize, record_type: u8, row: &[u8]) -> Reply
+fn check_end(s: &[u8], c: Cursor, n: usize, record_type: u8, row: &[u8]) -> Result<(), Refusal>
     requires { (c.at ≤ length s.now) × (n ≤ most_samples) × (n ≤ length row.now) }
     ensures { result ≡ end_checked (type_phased record_type) (heterozygous_count (take n row.now)) s.now c.at }
 {
     if type_phased(record_type) {
         return check_phased_end(s, c, heterozygous_count(row, n));
     }
-    whole_record(ListStep::Listed(c), s.len())
+    whole_record(Ok(c), s.len())
 }
 
 // The tracks of the record of a type, at `c`: the cursor past the main one. The row's first n bytes hold the anchor's categories if it leans; they become the
-// record's own, and after a refusal they are zero.
-pub fn read_tracks(s: &[u8], c: Cursor, n: usize, record_type: u8, row: &mut [u8]) -> ListStep
-    requires at_in_bounds { (c.at ≤ length s.now) × (n ≤ most_samples) × (n ≤ length row.old) }
-    requires fact { kind_of record_type ≡ 5 → ⊥ }
+// record's own.
+fn put_tracks(
+    s: &[u8],
+    c: Cursor,
+    n: usize,
+    record_type: u8,
+    row: &mut [u8],
+) -> Result<Cursor, Refusal>
+    requires { (c.at ≤ length s.now) × (n ≤ most_samples) × (n ≤ length row.old) }
+    ensures { wiped n (list_left result row.new) ≡ tracks_read n record_type s.now c.at row.old }
+{
+    let kind = Kind::from(kind_of(record_type));
+    let next = read_track(s, c, n, kind, false, row)?;
+    check_end(s, next, n, record_type, &row[..])?;
+    Ok(next)
+}
+
+// The same, and after a refusal the row's first n bytes are zero.
+pub fn read_tracks(
+    s: &[u8],
+    c: Cursor,
+    n: usize,
+    record_type: u8,
+    row: &mut [u8],
+) -> Result<Cursor, Refusal>
+    requires { (c.at ≤ length s.now) × (n ≤ most_samples) × (n ≤ length row.old) }
     ensures { list_left result row.new ≡ tracks_read n record_type s.now c.at row.old }
 {
-    let got = read_track(s, c, n, kind_of(record_type), false, row);
-    match got {
-        ListStep::Refused(why) => {
+    match put_tracks(s, c, n, record_type, row) {
+        Err(why) => {
             base_rows::clear(row, n);
-            ListStep::Refused(why)
+            Err(why)
         }
-        ListStep::Listed(next) => {
-            let reply = check_end(s, next, n, record_type, &row[..]);
-            match reply {
-                Reply::Refused(why) => {
-                    base_rows::clear(row, n);
-                    ListStep::Refused(why)
-                }
-                Reply::Accepted => ListStep::Listed(next),
-            }
-        }
+        Ok(next) => Ok(next),
     }
 }
 
 // The record of a type, at `c`, read into the row likewise.
-pub fn read_body(s: &[u8], c: Cursor, n: usize, record_type: u8, row: &mut [u8]) -> Reply
+pub fn read_body(
+    s: &[u8],
+    c: Cursor,
+    n: usize,
+    record_type: u8,
+    row: &mut [u8],
+) -> Result<(), Refusal>
     requires at_in_bounds { (c.at ≤ length s.now) × (n ≤ most_samples) × (n ≤ length row.old) }
-    requires fact { kind_of record_type ≡ 5 → ⊥ }
     ensures { record_left result row.new ≡ recorded n record_type s.now c.at row.old }
 {
-    let got = read_tracks(s, c, n, record_type, row);
-    match got {
-        ListStep::Refused(why) => Reply::Refused(why),
-        ListStep::Listed(_) => Reply::Accepted,
-    }
+    read_tracks(s, c, n, record_type, row)?;
+    Ok(())
 }
 
 // The phases of an accepted record of a type, whose tracks after the main one start at `c`, by its own row. Without a track all are unphased.
@@ -240,18 +243,13 @@ pub fn read_phased(
     record_type: u8,
     row: &mut [u8],
     output: &mut [u8],
-) -> Reply
+) -> Result<(), Refusal>
     requires at_in_bounds { (c.at ≤ length s.now) × (n ≤ most_samples) × (n ≤ length row.old) }
-    requires fact { (kind_of record_type ≡ 5 → ⊥) × (n ≤ length output.old) }
+    requires output_in_bounds { n ≤ length output.old }
     ensures { phased_left result row.new output.new
         ≡ phased_recorded n record_type s.now c.at row.old output.old }
 {
-    let got = read_tracks(s, c, n, record_type, row);
-    match got {
-        ListStep::Refused(why) => Reply::Refused(why),
-        ListStep::Listed(next) => {
-            put_after(s, next, n, record_type, &row[..], output);
-            Reply::Accepted
-        }
-    }
+    let next = read_tracks(s, c, n, record_type, row)?;
+    put_after(s, next, n, record_type, &row[..], output);
+    Ok(())
 }

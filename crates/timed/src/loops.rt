@@ -1,17 +1,16 @@
 // The library's inner loops as C functions, for bench/ alone. A function that asks something of its caller is called only where that holds; else the
 // answer is `NOT_ASKED`.
 use base_cursor::Cursor;
-use format::{FoundInBlock, MOST_SAMPLES, VARIANTS_TO_A_BLOCK};
-use read_list::{ListRule, ListStep};
-use read_packed::PackedStep;
+use format::{MOST_SAMPLES, Refusal, VARIANTS_TO_A_BLOCK};
+use read_list::ListRule;
 
 // The answer of an inner function that was not called.
 const NOT_ASKED: usize = 18446744073709551615;
 
-fn of_packed(step: PackedStep) -> usize {
+fn of_packed(step: Result<Cursor, Refusal>) -> usize {
     match step {
-        PackedStep::Next(next) => next.at,
-        PackedStep::Refused(_) => NOT_ASKED,
+        Ok(next) => next.at,
+        Err(_) => NOT_ASKED,
     }
 }
 
@@ -83,8 +82,8 @@ pub extern "C" fn timed_put_list(s: &[u8], at: usize, n: usize, row: &mut [u8]) 
         return NOT_ASKED;
     }
     match read_list::put_list(s, n, ListRule::OffRow, false, Cursor { at }, row) {
-        ListStep::Listed(next) => next.at,
-        ListStep::Refused(_) => NOT_ASKED,
+        Ok(next) => next.at,
+        Err(_) => NOT_ASKED,
     }
 }
 
@@ -101,8 +100,8 @@ pub extern "C" fn timed_bad_in_block(types: &[u8], n: usize, half: bool) -> usiz
         return NOT_ASKED;
     }
     match head_types::bad_in_block(types, 0, n, half) {
-        FoundInBlock::At(i) => i.0,
-        FoundInBlock::Nowhere => n,
+        Some(i) => i.0,
+        None => n,
     }
 }
 

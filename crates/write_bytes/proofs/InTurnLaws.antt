@@ -1,19 +1,17 @@
 -- Numbers packed one after another are a packed array.
 -- Assumes nothing.
-use mathlib.Core.Path.{◌≡◌, refl, sym, ap, ◌∙◌}
+use mathlib.Core.Path.{◌≡◌, refl, ap, ◌∙◌}
 use Prim.Native.Nat.{ℕ, zero, suc, ◌+◌, ◌*◌, ◌≤◌, ◌<◌}
 use native.Mathlib.Omega.{arith}
 use native.Mathlib.Nat.{mul-le-mul_left, mul-le-mul_right, mul-le-mul}
 use native.Mathlib.Numerals.{add-one}
 use mathlib.Core.List.{List, [], ◌∷◌, ◌++◌}
-use mathlib.Core.Bool.{Bool, true, false}
+use mathlib.Core.Bool.{true, false}
 use lib.ListN.{length, set, length-set}
-use lib.Seq.{sets}
-use lib.Dec.{eqb, ltb}
+use lib.Dec.{ltb}
 use mir.Syntax.{w8, w64}
 use mir.Val.{Fits}
-use borrow.Author.Tests.{eq-eqb, ne_eqb, lt-ltb, le-ltb}
-use Rattle.format.specs.Base.{pick}
+use borrow.Author.Tests.{ne_eqb, lt-ltb, le-ltb}
 use Rattle.format.specs.Packed.{Bits, one, two, four, eight, limit, more, byte_of, packed_after, packed}
 use Rattle.format.proofs.Rules.{by_test}
 use Rattle.write_bytes.specs.Written.{Wrote}
@@ -103,21 +101,6 @@ module _ (l : ℕ) (packing : Packing) (f : PackingFits l packing.scale packing.
         }
 
 pub ruleset number_laws = (scale_fits, number_fits, sum_fits, byte_fits, number_more, number_full)
-
--- ---- the last byte
-
-module _ (packing : Packing) (to : List ℕ) where
-  pub last_none : packing.scale ≡ 1 → Wrote to packing.at (last_byte packing.scale packing.byte) packing.at to
-  last_none z = simp (eq-eqb packing.scale 1 z) (record { place = omega arith; same = refl })
-
-  module _ (z : packing.scale ≡ 1 → ⊥) where
-    pub last_stored : Wrote to packing.at (last_byte packing.scale packing.byte) (packing.at + 1) (set to packing.at packing.byte)
-    last_stored = simp (ne_eqb packing.scale 1 z) (record { place = refl; same = refl })
-
-    pub last_room : packing.at + length (last_byte packing.scale packing.byte) ≤ length to → packing.at < length to
-    last_room h = let g : packing.at + 1 ≤ length to = simp (ne_eqb packing.scale 1 z) at h in omega arith
-
-pub ruleset last_laws = (last_none, last_stored, last_room)
 
 -- ---- the format's packing
 

@@ -127,7 +127,7 @@ module _ {number width : ℕ} {to₀ : List ℕ} {at end : ℕ} {to : List ℕ} 
       let e : end - place ≡ suc (end - suc place) = omega arith in
       record { ends = i.ends; room = i.room; upto = omega arith; keeps = simp length-set i.keeps; same = rw add-one (rw e at i.same) }
 
-  pub number_end : end ≤ place → Wrote to₀ at (number_bytes width number) place to
+  pub number_end : end ≤ place → Wrote to₀ at (number_bytes width number) (at + width) to
   unfolding number_bytes
   number_end h =
       let e : end - place ≡ 0 = omega arith in

@@ -55,8 +55,8 @@ pub fn put_varint(output: &mut [u8], at: usize, number: usize) -> usize
     let mut place = at;
     while rest >= 128 {
         output[place] = (rest % 128 + 128) as u8;
-        rest = rest / 128;
-        place = place + 1;
+        rest /= 128;
+        place += 1;
     }
     output[place] = rest as u8;
     place + 1
@@ -69,13 +69,11 @@ pub fn put_number(output: &mut [u8], at: usize, width: usize, number: usize) -> 
 {
     let end = at + width;
     let mut rest = number;
-    let mut place = at;
-    while place < end {
+    for place in at..end {
         output[place] = (rest % 256) as u8;
-        rest = rest / 256;
-        place = place + 1;
+        rest /= 256;
     }
-    place
+    end
 }
 
 // How many bytes an array of so many samples has.
@@ -83,10 +81,7 @@ pub fn array_size(array: Array, samples: usize) -> usize
     requires { samples ≤ most_samples }
     ensures { result ≡ packed_size (width array) samples }
 {
-    match array {
-        Array::Categories => (samples + 3) / 4,
-        Array::Bits { higher: _ } => (samples + 7) / 8,
-    }
+    samples.div_ceil(in_byte(array))
 }
 
 // What an array holds for sample i: its category, or its bit; 0 past the last sample.
@@ -100,12 +95,7 @@ fn packed_number(array: Array, categories: &[u8], i: usize) -> u8
     let category = categories[i];
     match array {
         Array::Categories => category,
-        Array::Bits { higher } => {
-            if category == higher {
-                return 1;
-            }
-            0
-        }
+        Array::Bits { higher } => u8::from(category == higher),
     }
 }
 
@@ -155,7 +145,7 @@ fn in_byte(array: Array) -> usize
 {
     match array {
         Array::Categories => 4,
-        Array::Bits { higher: _ } => 8,
+        Array::Bits { .. } => 8,
     }
 }
 
@@ -165,14 +155,11 @@ fn put_bytes(array: Array, categories: &[u8], output: &mut [u8], at: usize) -> u
     ensures { Wrote output.old at (array_bytes array categories.now) result output.new }
 {
     let samples = in_byte(array);
-    let mut place = at;
-    let mut i: usize = 0;
-    while i < categories.len() {
-        output[place] = byte_of(array, categories, i);
-        place = place + 1;
-        i = i + samples;
+    let size = categories.len().div_ceil(samples);
+    for k in 0..size {
+        output[at + k] = byte_of(array, categories, k * samples);
     }
-    place
+    at + size
 }
 
 // Writes an array, and gives the place after it. 01, The header: "Each packed array ends at a byte boundary, and its unused bits are zero." Each array
@@ -211,9 +198,8 @@ pub fn end_packed(packing: Packing, output: &mut [u8]) -> usize
     requires { (packing.byte < 256) × (packing.at + length (last_byte packing.scale packing.byte) ≤ length output.old) }
     ensures { Wrote output.old packing.at (last_byte packing.scale packing.byte) result output.new }
 {
-    let at = packing.at;
-    let byte = packing.byte;
-    if packing.scale == 1 {
+    let Packing { scale, byte, at } = packing;
+    if scale == 1 {
         return at;
     }
     output[at] = byte as u8;

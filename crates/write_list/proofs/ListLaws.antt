@@ -9,6 +9,7 @@ use mathlib.Core.Bool.{Bool, true, false}
 use lib.ListN.{length, length-append}
 use mir.Syntax.{w64}
 use mir.Val.{Fits}
+use Rattle.std.specs.Int.{div_ceil}
 use lib.Dec.{eqb}
 use Rattle.format.specs.Limits.{most_samples}
 use Rattle.format.specs.Varint.{varint_within, varint_bytes}
@@ -104,16 +105,6 @@ module _ (width : ℕ) (es : List Entry) (to : List ℕ) (at count : ℕ) (k : c
           pub all_written : {r₅ : ℕ} {m₅ : List ℕ} → Wrote m₄ r₄ (part_bytes Steps width es) r₅ m₅ → Wrote to at (list_bytes width es) r₅ m₅
           all_written e = rw (list_is width es) at (rw k at (simp append_assoc at (wrote_both (wrote_both (wrote_both (wrote_both a b) c) d) e)))
 
--- the width that so many samples ask for
-module _ (samples width : ℕ) (es : List Entry) (at : ℕ) (w : width ≡ number_width samples) where
-  pub room_as : (len : ℕ) → at + length (list_bytes (number_width samples) es) ≤ len → at + length (list_bytes width es) ≤ len
-  room_as len h = rw w h
-
-  pub wrote_as : (to : List ℕ) (r : ℕ) (after : List ℕ) → Wrote to at (list_bytes width es) r after → Wrote to at (list_bytes (number_width samples) es) r after
-  wrote_as to r after h = rw w at h
-
-pub ruleset width_laws = (room_as, wrote_as)
-
 -- ---- how much there is at most
 
 listed_few : (i : ℕ) (base_list row_list : List ℕ) → length (differences i base_list row_list) ≤ length base_list
@@ -198,31 +189,26 @@ module _ (samples : ℕ) (counted : Counted) (g : ℕ) (k : g ≡ groups counted
   heads_fit f = record { fits = omega (arith, heads_most, f.count_few) }
 
   module _ (v : ℕ) (c : v ≡ length (varint_bytes counted.count)) where
-    module _ (f : Few counted) where
-      all_few : v + w * g + (g - 1) + (counted.count + 3) / 4 + counted.steps < 2 ^ 64
-      all_few = omega (arith, heads_most, varint_length counted.count, f.count_few, f.steps_few)
+    pub with_heads : Few counted → Fits w64 (v + w * g)
+    with_heads f = record { fits = omega (arith, heads_most, varint_length counted.count, f.count_few) }
 
-      pub with_heads : Fits w64 (v + w * g)
-      with_heads = record { fits = omega (arith, all_few) }
+    pub with_sizes : Few counted → Fits w64 (v + w * g + (g - 1))
+    with_sizes f = record { fits = omega (arith, heads_most, varint_length counted.count, f.count_few) }
 
-      pub with_sizes : Fits w64 (v + w * g + (g - 1))
-      with_sizes = record { fits = omega (arith, all_few) }
+    -- and n bytes of values
+    module _ (n : ℕ) (q : n ≡ div_ceil counted.count 4) where
+      pub with_values : Few counted → Fits w64 (v + w * g + (g - 1) + n)
+      with_values f = record { fits = omega (arith, heads_most, varint_length counted.count, f.count_few) }
 
-      pub with_values : Fits w64 (v + w * g + (g - 1) + (counted.count + 3) / 4)
-      with_values = record { fits = omega (arith, all_few) }
+      pub with_steps : Few counted → Fits w64 (v + w * g + (g - 1) + n + counted.steps)
+      with_steps f = record { fits = omega (arith, heads_most, varint_length counted.count, f.count_few, f.steps_few) }
 
-      pub with_steps : Fits w64 (v + w * g + (g - 1) + (counted.count + 3) / 4 + counted.steps)
-      with_steps = record { fits = all_few }
-
-    pub size_some : (es : List Entry) → Measured es counted
-        → SizeOf samples es
-        (record {
-          count = counted.count;
-          bytes = v + w * g + (g - 1) + (counted.count + 3) / 4 + counted.steps;
-        })
-    size_some es m =
-        let s : counted.steps ≡ length (steps 0 0 es) = m.steps_are ∙ ap length (steps_part 0 0 0 0 0 es) in
-        record { count_is = m.count_is; bytes_are = rw (e, c, k, s, m.count_is) (sym (list_length (number_width samples) es)) }
+      pub size_some : (es : List Entry) → Measured es counted
+          → SizeOf samples es (record { count = counted.count; bytes = v + w * g + (g - 1) + n + counted.steps })
+      size_some es m =
+          let s : counted.steps ≡ length (steps 0 0 es) = m.steps_are ∙ ap length (steps_part 0 0 0 0 0 es) in
+          let r : n ≡ (counted.count + 3) / 4 = omega arith in
+          record { count_is = m.count_is; bytes_are = rw (e, c, k, s, r, m.count_is) (sym (list_length (number_width samples) es)) }
 
 pub size_none : (samples : ℕ) (es : List Entry) (counted : Counted) → Measured es counted → counted.count ≡ 0
     → SizeOf samples es (record { count = counted.count; bytes = 1 })

@@ -7,7 +7,6 @@ use mathlib.Core.List.{List, [], ◌∷◌, ◌++◌}
 use mathlib.Core.Bool.{Bool, true, false}
 use lib.ListN.{length, get_or}
 use lib.Dec.{eqb}
-use borrow.Author.Tests.{eq-eqb, ne_eqb}
 use Rattle.format.specs.Base.{pick}
 use Rattle.format.specs.Packed.{two}
 use Rattle.format.specs.Difflist.{Entry, values}
@@ -17,26 +16,11 @@ use Rattle.write_bytes.specs.Written.{Wrote}
 use Rattle.write_bytes.specs.InTurn.{last_byte, PackingFits, PackedOn, PackingGoes}
 use Rattle.write_bytes.specs.declared.Packing.{Packing}
 use Rattle.write_bytes.proofs.ArrayLaws.{below_at}
-use Rattle.write_bytes.proofs.InTurnLaws.{packed_nothing, goes_first, goes_room, goes_next, goes_small, goes_last, goes_end}
+use Rattle.write_bytes.proofs.InTurnLaws.{goes_first, goes_room, goes_next, goes_small, goes_last, goes_end}
 use Rattle.write_parts.specs.Rows.{base_row, row, listed_entries, RowsFit}
 use Rattle.write_parts.specs.declared.Base.{Base}
 use Rattle.write_parts.proofs.RowLaws.{row_below, listed_at, listed_turn, listed_done}
 use Rattle.write_list.specs.Values.{values_bytes, sample_values}
-
--- ---- a sample's value
-
-module _ (base value : ℕ) (packing : Packing) (to : List ℕ) where
-  pub value_base : value ≡ base → PackingFits 4 packing.scale packing.byte → PackedOn 4 to packing (sample_values base value) packing to
-  value_base e f = simp (eq-eqb value base e) (packed_nothing 4 to packing f)
-
-  module _ (d : value ≡ base → ⊥) where
-    pub value_room : packing.at + length (sample_values base value) ≤ length to → packing.at < length to
-    value_room h = let g : packing.at + 1 ≤ length to = simp (ne_eqb value base d) at h in omega arith
-
-    pub value_packed : (r : Packing) (after : List ℕ) → PackedOn 4 to packing (value ∷ []) r after → PackedOn 4 to packing (sample_values base value) r after
-    value_packed r after w = simp (ne_eqb value base d) w
-
-pub ruleset value_laws = (value_base, value_room, value_packed)
 
 -- ---- the loop
 

@@ -55,11 +55,9 @@ fn put_values(base: Base, categories: &[u8], anchor: &[u8], output: &mut [u8], a
         byte: 0,
         at,
     };
-    let mut i: usize = 0;
-    while i < categories.len() {
+    for i in 0..categories.len() {
         let s = sample_at(base, categories, anchor, i);
         packing = write_value(s, packing, output);
-        i = i + 1;
     }
     end_packed(packing, output)
 }
@@ -85,14 +83,10 @@ fn count_sample(s: Sample, i: usize, counted: Counted) -> Counted
         return counted;
     }
     let group = counted.group;
-    let bytes = step_size(group, i);
-    let after = advance(group, i);
-    let count = counted.count + 1;
-    let steps = counted.steps + bytes;
     Counted {
-        group: after,
-        count,
-        steps,
+        group: advance(group, i),
+        count: counted.count + 1,
+        steps: counted.steps + step_size(group, i),
     }
 }
 
@@ -111,11 +105,9 @@ fn measure(base: Base, categories: &[u8], anchor: &[u8]) -> Counted
         count: 0,
         steps: 0,
     };
-    let mut i: usize = 0;
-    while i < categories.len() {
+    for i in 0..categories.len() {
         let s = sample_at(base, categories, anchor, i);
         counted = count_sample(s, i, counted);
-        i = i + 1;
     }
     counted
 }
@@ -133,7 +125,7 @@ pub fn list_size(base: Base, categories: &[u8], anchor: &[u8]) -> ListSize
     // a head for each group, a size byte for each but the last
     let heads = groups(count);
     let width = number_width(categories.len());
-    let values = (count + 3) / 4;
+    let values = count.div_ceil(4);
     let bytes = varint_size(count) + width * heads + (heads - 1) + values + counted.steps;
     ListSize { count, bytes }
 }

@@ -14,7 +14,7 @@ use Rattle.format.proofs.VarintLaws.{varint_length}
 use Rattle.format.proofs.NumbersLaws.{number_length}
 use Rattle.write_bytes.specs.Written.{Wrote}
 use Rattle.write_bytes.proofs.WrittenLaws.{wrote_nothing}
-use Rattle.write_parts.specs.Parts.{first_bytes, step_bytes, entry_bytes, after_entry, GroupFits, sample_bytes, after_sample, Passed}
+use Rattle.write_parts.specs.Parts.{first_bytes, step_bytes, entry_bytes, after_entry, GroupFits}
 use Rattle.write_parts.specs.declared.Part.{Part}
 use Rattle.write_parts.specs.declared.Part.TheVariants.{Heads, Sizes, Steps}
 use Rattle.write_parts.specs.declared.Group.{Group}
@@ -48,25 +48,7 @@ size_least group sample f z b = omega (arith, f.least b)
 
 pub ruleset first_laws = (room_heads, room_size, first_heads, first_none, first_size, first_steps, size_least)
 
--- ---- another
-
-module _ (part : Part) (step at : ℕ) where
-  pub room_step : (len : ℕ) → part ≡ Steps → at + length (step_bytes part step) ≤ len → at + length (varint_bytes step) ≤ len
-  room_step len q h = rw q at h
-
-  module _ (to : List ℕ) where
-    pub step_heads : part ≡ Heads → Wrote to at (step_bytes part step) at to
-    step_heads q = rw q (wrote_nothing to at)
-
-    pub step_sizes : part ≡ Sizes → Wrote to at (step_bytes part step) at to
-    step_sizes q = rw q (wrote_nothing to at)
-
-    pub step_steps : (r : ℕ) (after : List ℕ) → part ≡ Steps → Wrote to at (varint_bytes step) r after → Wrote to at (step_bytes part step) r after
-    step_steps r after q w = rw q w
-
-pub ruleset step_laws = (room_step, step_heads, step_sizes, step_steps)
-
--- ---- either
+-- ---- the first of a group, or another
 
 module _ (part : Part) (width : ℕ) (group : Group) (sample : ℕ) where
   entry_first : group.room ≡ 0 → first_bytes part width group.size group.begun sample ≡ entry_bytes part width group sample
@@ -114,22 +96,3 @@ module _ (group : Group) (sample : ℕ) where
     size_fits f = record { fits = omega (arith, f.most, varint_length (sample - group.before)) }
 
 pub ruleset advance_laws = (after_first, after_step, size_fits)
-
--- ---- a sample, listed or not
-
-module _ (part : Part) (width base value : ℕ) (group : Group) (i : ℕ) where
-  pub sample_room : (at len : ℕ) → (value ≡ base → ⊥) → at + length (sample_bytes part width base value group i) ≤ len
-      → at + length (entry_bytes part width group i) ≤ len
-  sample_room at len d h = simp (ne_eqb value base d) at h
-
-  module _ (to : List ℕ) (at : ℕ) where
-    pub passed_listed : (next : ℕ) (after : List ℕ) (moved : Group) → (value ≡ base → ⊥) → Wrote to at (entry_bytes part width group i) next after
-        → moved ≡ after_entry group i
-        → Passed to at (sample_bytes part width base value group i) (after_sample base value group i) (record { group = moved; at = next }) after
-    passed_listed next after moved d w m = simp (ne_eqb value base d) (record { wrote = w; moved = m })
-
-    pub passed_base : value ≡ base
-        → Passed to at (sample_bytes part width base value group i) (after_sample base value group i) (record { group = group; at = at }) to
-    passed_base e = simp (eq-eqb value base e) (record { wrote = wrote_nothing to at; moved = refl })
-
-pub ruleset passed_laws = (sample_room, passed_listed, passed_base)

@@ -1,17 +1,17 @@
 -- The row that a list is made from and its base, sample by sample, and the list from a sample on.
 -- Assumes nothing.
 use mathlib.Core.Path.{◌≡◌, refl, sym, ◌∙◌}
-use Prim.Native.Nat.{ℕ, zero, suc, ◌+◌, ◌-◌, ◌≤◌, ◌<◌}
+use Prim.Native.Nat.{ℕ, zero, suc, ◌+◌, ◌≤◌, ◌<◌}
 use native.Mathlib.Omega.{arith}
 use native.Mathlib.Numerals.{add-one}
-use mathlib.Core.Bool.{Bool, true}
+use mathlib.Core.Bool.{Bool}
 use mathlib.Core.List.{List, [], ◌∷◌}
 use lib.ListN.{length, get_or, drop, length-map, drop_of_length-le, get_or-replicate}
 use lib.Seq.{drop-cons}
 use lib.Dec.{eqb}
 use borrow.Author.Tests.{eq-eqb, ne_eqb}
 use Rattle.format.specs.Base.{pick, Below}
-use Rattle.format.specs.Category.{exchange, exchange_if, exchange_all}
+use Rattle.format.specs.Category.{exchange_if, exchange_all}
 use Rattle.format.specs.Difflist.{Entry}
 use Rattle.format.specs.Writer.{unless, differences}
 use Rattle.format.proofs.CategoryLaws.{exchange_all_below}
@@ -20,25 +20,6 @@ use Rattle.write_parts.specs.declared.Base.{Base}
 use Rattle.write_parts.specs.declared.Base.TheVariants as base
 
 -- ---- the two rows
-
--- 0 and 2 change places where it is asked, and every other category stays
-pub exchange_turned : (inverted : Bool) (n : ℕ) → inverted ≡ true → n < 3 → (n ≡ 1 → ⊥) → 2 - n ≡ exchange_if inverted n
-exchange_turned inverted n e h a = rw e (go n h a)
-  where
-    go : (m : ℕ) → m < 3 → (m ≡ 1 → ⊥) → 2 - m ≡ exchange m
-    go zero h a = refl
-    go (suc zero) h a = absurd (a refl)
-    go (suc (suc zero)) h a = refl
-    go (suc (suc (suc m))) h a = absurd (omega arith)
-
-pub exchange_high : (inverted : Bool) (n : ℕ) → inverted ≡ true → 3 ≤ n → n ≡ exchange_if inverted n
-exchange_high inverted n e h = rw e (go n h)
-  where
-    go : (m : ℕ) → 3 ≤ m → m ≡ exchange m
-    go zero h = absurd (omega arith)
-    go (suc zero) h = absurd (omega arith)
-    go (suc (suc zero)) h = absurd (omega arith)
-    go (suc (suc (suc m))) h = refl
 
 pub row_length : (b : Base) (categories : List ℕ) → length (row b categories) ≡ length categories
 row_length (base.Category category) categories = refl
@@ -92,8 +73,6 @@ module _ (b : Base) (anchor categories : List ℕ) (i : ℕ) where
   pub base_lower : (lower higher : ℕ) → b ≡ base.Pair lower higher → (get_or categories i 0 ≡ higher → ⊥) → i < length categories
       → lower ≡ get_or (base_row b anchor categories) i 0
   base_lower lower higher e q h = rw e (sym (pair_at lower higher categories i h ∙ simp (ne_eqb (get_or categories i 0) higher q)))
-
-pub ruleset exchange_laws = (exchange_turned, exchange_high)
 
 pub ruleset sample_laws = (value_category, value_pair, value_anchor, base_category, base_anchor, anchor_there, base_higher, base_lower)
 

@@ -5,34 +5,15 @@ use Prim.Native.Nat.{ℕ, suc, ◌+◌, ◌≤◌, ◌<◌}
 use native.Mathlib.Omega.{arith}
 use native.Mathlib.Nat.{zero-add}
 use native.Mathlib.Numerals.{add-one}
-use mathlib.Core.Bool.{Bool, true, false, not}
+use mathlib.Core.Bool.{true}
 use mathlib.Core.List.{List, [], ◌∷◌}
 use lib.ListN.{length, get_or, drop, drop_of_length-le}
 use lib.Seq.{drop-cons}
 use lib.Dec.{eqb}
-use borrow.Author.Tests.{lt-ltb, le-ltb, eq-eqb, ne_eqb, not-true, not-false}
+use borrow.Author.Tests.{eq-eqb, ne_eqb}
 use Rattle.format.specs.Base.{pick}
-use Rattle.format.specs.Phase.{heterozygous}
 use Rattle.format.specs.Writer.{phase_allowed}
-use Rattle.format.proofs.Rules.{split}
 use Rattle.write_phase.specs.Calls.{first_not_allowed}
-
--- ---- one phase
-
-module _ (category phase : ℕ) where
-  -- outside category 1 only 0 is allowed
-  module _ (b : Bool) (e : b ≡ heterozygous category) where
-    pub excess_outside : not b ≡ true → eqb phase 0 ≡ phase_allowed category phase
-    excess_outside t = rw (← e, not-true b t) refl
-
-    module _ (t : not b ≡ false) where
-      pub excess_above : 2 < phase → eqb phase 0 ≡ phase_allowed category phase
-      excess_above h = rw (← e, not-false b t) (simp (le-ltb phase 3 (omega arith), ne_eqb phase 0 (λ z. omega arith)))
-
-      pub excess_none : phase ≤ 2 → true ≡ phase_allowed category phase
-      excess_none h = rw (← e, not-false b t) (simp (lt-ltb phase 3 (omega arith)))
-
-pub ruleset excess_laws = (excess_outside, excess_above, excess_none)
 
 -- ---- all of them, by the largest excess
 
@@ -45,25 +26,6 @@ pub record Gathering (categories phases : List ℕ) (most i : ℕ) : Type 0 wher
   pub each : length phases ≡ length categories
   pub upto : i ≤ length categories
   pub bounds : Bounds categories phases i most
-
-pub largest_start : (categories phases : List ℕ) → length phases ≡ length categories → Gathering categories phases 0 0
-largest_start categories phases e = record { each = e; upto = omega arith; bounds = λ z i p. absurd (omega arith) }
-
-module _ {categories phases : List ℕ} {most i : ℕ} (v : Gathering categories phases most i) where
-  pub largest_next : (new x : ℕ) → eqb x 0 ≡ phase_allowed (get_or categories i 0) (get_or phases i 0) → most ≤ new → x ≤ new → i < length categories
-      → Gathering categories phases new (i + 1)
-  largest_next new x e h g k =
-      record {
-        each = v.each;
-        upto = omega arith;
-        bounds = λ z j p.
-            split (suc j) i (λ q. v.bounds (omega arith) j q) (λ q. let d : j ≡ i = omega arith in rw d (sym e ∙ eq-eqb x 0 (omega arith)));
-      }
-
-  pub largest_end : length categories ≤ i → most ≡ 0 → (j : ℕ) → j < length categories → phase_allowed (get_or categories j 0) (get_or phases j 0) ≡ true
-  largest_end h z j p = v.bounds z j (omega arith)
-
-pub ruleset largest_laws = (largest_start, largest_next, largest_end)
 
 pub none_found : (categories phases : List ℕ) (most : ℕ) → length phases ≡ length categories → most ≡ 0
     → Bounds categories phases (length categories) most → length categories ≡ first_not_allowed categories phases
@@ -103,7 +65,7 @@ module _ {categories phases : List ℕ} {i : ℕ} (v : Going categories phases i
         = simp (sym e ∙ eq-eqb x 0 (omega arith)) at (turn h) in
         record { each = v.each; upto = omega arith; same = rw (add-one i) (omega arith) }
 
-  pub allowed_end : length categories ≤ i → i ≡ first_not_allowed categories phases
+  pub allowed_end : length categories ≤ i → length categories ≡ first_not_allowed categories phases
   unfolding first_not_allowed
   allowed_end h =
       let e : drop i categories ≡ [] = drop_of_length-le categories h in

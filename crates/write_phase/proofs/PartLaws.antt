@@ -1,38 +1,20 @@
 -- A part of the track, packed call by call.
 -- Assumes nothing.
-use mathlib.Core.Path.{◌≡◌, sym, ◌∙◌}
+use mathlib.Core.Path.{◌≡◌}
 use Prim.Native.Nat.{ℕ, ◌+◌, ◌≤◌, ◌<◌}
 use native.Mathlib.Omega.{arith}
-use mathlib.Core.Bool.{Bool, true, false, not}
-use mathlib.Core.List.{List, [], ◌∷◌, ◌++◌}
+use mathlib.Core.List.{List, ◌∷◌, ◌++◌}
 use lib.ListN.{length, get_or}
-use borrow.Author.Tests.{not-true, not-false}
 use Rattle.format.specs.Packed.{one, packed}
 use Rattle.format.proofs.Rules.{by_test}
 use Rattle.write_bytes.specs.Written.{Wrote}
 use Rattle.write_bytes.specs.InTurn.{last_byte, packed_from, PackingFits, PackedOn, PackingGoes}
 use Rattle.write_bytes.specs.declared.Packing.{Packing}
-use Rattle.write_bytes.proofs.InTurnLaws.{scale_of, packed_nothing, goes_first, goes_room, goes_next, goes_small, goes_last, goes_end}
-use Rattle.write_phase.specs.Calls.{has_bit, call_bit, call_bits, calls_bits, part_bytes, begun}
+use Rattle.write_bytes.proofs.InTurnLaws.{scale_of, goes_first, goes_room, goes_next, goes_small, goes_last, goes_end}
+use Rattle.write_phase.specs.Calls.{has_bit, call_bits, calls_bits, part_bytes, begun}
 use Rattle.write_phase.specs.declared.TrackPart.{TrackPart}
 use Rattle.write_phase.specs.declared.TrackPart.TheVariants as part
 use Rattle.write_phase.proofs.CallLaws.{left_at, calls_turn, calls_done}
-
--- ---- one call
-
-module _ (p : TrackPart) (category phase : ℕ) (packing : Packing) (to : List ℕ) (has : Bool) (h : has ≡ has_bit p category phase) where
-  pub call_none : not has ≡ true → PackingFits 2 packing.scale packing.byte → PackedOn 2 to packing (call_bits p category phase) packing to
-  call_none t f = simp (sym h ∙ not-true has t) (packed_nothing 2 to packing f)
-
-  module _ (t : not has ≡ false) where
-    pub call_room : packing.at + length (call_bits p category phase) ≤ length to → packing.at < length to
-    call_room g = let k : packing.at + 1 ≤ length to = simp (sym h ∙ not-false has t) at g in omega arith
-
-    pub call_packed : (bit : ℕ) → bit ≡ call_bit p phase → (r : Packing) (after : List ℕ) → PackedOn 2 to packing (bit ∷ []) r after
-        → PackedOn 2 to packing (call_bits p category phase) r after
-    call_packed bit e r after w = simp (sym h ∙ not-false has t, ← e) w
-
-pub ruleset call_laws = (call_none, call_room, call_packed)
 
 -- ---- the loop
 

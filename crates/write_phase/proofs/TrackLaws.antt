@@ -1,11 +1,12 @@
 -- The track: its size, and its two parts one after another.
 -- Assumes nothing.
 use mathlib.Core.Path.{◌≡◌, refl, sym, ap, ◌∙◌}
-use Prim.Native.Nat.{ℕ, suc, ◌+◌, ◌/◌, ◌≤◌, ◌<◌}
+use Prim.Native.Nat.{ℕ, suc, ◌+◌, ◌/◌, ◌≤◌}
 use native.Mathlib.Omega.{arith}
 use mathlib.Core.Bool.{Bool, true, false, not, ◌&&◌, ◌||◌}
+use Rattle.std.specs.Int.{div_ceil}
 use mathlib.Core.List.{List, [], ◌∷◌, ◌++◌}
-use lib.ListN.{length, set, length-append, length-map}
+use lib.ListN.{length, length-append, length-map}
 use Rattle.format.specs.Base.{pick}
 use Rattle.format.specs.Limits.{most_samples}
 use Rattle.format.specs.Packed.{one, byte_of, packed_after, packed}
@@ -106,14 +107,15 @@ module _ (categories phases : List ℕ) where
     second_size : (phased + 7) / 8 ≡ length second
     second_size = ap (λ (n : ℕ). (n + 7) / 8) p ∙ sym (packed_length one _ (calls_bits part.PhaseBits categories phases) refl)
 
-    pub size_all_phased : phased ≡ heterozygous → TrackSizeOf categories phases (record { stored = false; bytes = 1 + (phased + 7) / 8 })
-    size_all_phased e =
+    pub size_all_phased : (bits : ℕ) → bits ≡ div_ceil phased 8 → phased ≡ heterozygous
+        → TrackSizeOf categories phases (record { stored = false; bytes = 1 + bits })
+    size_all_phased bits q e =
         let s : false ≡ some_unphased (gathered categories phases) = all_phased (gathered categories phases) (sym phased_are ∙ e ∙ calls_are) in
         record { stored_is = s; bytes_are = rw (track_is false s) (omega (arith, second_size)); few = omega arith }
 
-    pub size_stored : (phased ≡ heterozygous → ⊥) → heterozygous ≤ most_samples
-        → TrackSizeOf categories phases (record { stored = true; bytes = (heterozygous + 8) / 8 + (phased + 7) / 8 })
-    size_stored d most =
+    pub size_stored : (bits first_bits : ℕ) → bits ≡ div_ceil phased 8 → first_bits ≡ div_ceil (1 + heterozygous) 8 → (phased ≡ heterozygous → ⊥)
+        → heterozygous ≤ most_samples → TrackSizeOf categories phases (record { stored = true; bytes = first_bits + bits })
+    size_stored bits first_bits q r d most =
         let s : true ≡ some_unphased (gathered categories phases)
         = not_all_phased (gathered categories phases) (λ e. d (phased_are ∙ e ∙ sym calls_are)) in
         let n : length (first true) ≡ (suc heterozygous + 7) / 8
@@ -123,25 +125,6 @@ module _ (categories phases : List ℕ) where
 pub ruleset size_laws = (size_all_phased, size_stored)
 
 -- ---- one part after the other
-
-module _ (stored : Bool) (categories phases to : List ℕ) (at : ℕ) where
-  module _ (s : stored ≡ true) where
-    pub presence_room : at + length (first_bytes stored categories phases) ≤ length to
-        → at + length (part_bytes part.PresenceBits categories phases) ≤ length to
-    presence_room h = rw s at h
-
-    pub presence_written : (r : ℕ) (after : List ℕ) → Wrote to at (part_bytes part.PresenceBits categories phases) r after
-        → Wrote to at (first_bytes stored categories phases) r after
-    presence_written r after w = rw s w
-
-  module _ (s : stored ≡ false) where
-    pub clear_room : at + length (first_bytes stored categories phases) ≤ length to → at < length to
-    clear_room h = let g : at + 1 ≤ length to = rw s at h in omega arith
-
-    pub clear_written : Wrote to at (first_bytes stored categories phases) (at + 1) (set to at 0)
-    clear_written = rw s (record { place = refl; same = refl })
-
-pub ruleset first_laws = (presence_room, presence_written, clear_room, clear_written)
 
 module _ (stored : Bool) (categories phases to : List ℕ) (at : ℕ) (s : stored ≡ some_unphased (gathered categories phases))
     (h : at + length (phase_track_bytes (phases_for categories phases)) ≤ length to) where

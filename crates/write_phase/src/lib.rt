@@ -10,7 +10,6 @@ ghost use Rattle.write_bytes.specs.InTurn.{PackingFits, PackedOn};
 ghost use Rattle.write_phase.specs.Calls.{first_not_allowed, has_bit, call_bit, call_bits, calls_bits, begun, first_bytes, part_bytes, TrackSizeOf};
 
 use base_calls::is_heterozygous;
-use base_rows::larger;
 use write_bytes::{Packing, end_packed, put_packed};
 
 // 02, Ask 1: the two parts of a track. "The track's first bit says whether H presence bits follow it at once"; "The phase bits begin at the next byte
@@ -32,13 +31,11 @@ pub struct TrackSize {
 fn excess(category: u8, phase: u8) -> u8
     ensures { eqb result 0 ≡ phase_allowed category phase }
 {
-    if !is_heterozygous(category) {
-        return phase;
+    if is_heterozygous(category) && phase <= 2 {
+        0
+    } else {
+        phase
     }
-    if phase > 2 {
-        return phase;
-    }
-    0
 }
 
 // 0 only if all phases are allowed: one flat loop with no exit, as others are rare.
@@ -48,10 +45,8 @@ fn largest_excess(categories: &[u8], phases: &[u8]) -> u8
         → phase_allowed (get_or categories.now i 0) (get_or phases.now i 0) ≡ true }
 {
     let mut most: u8 = 0;
-    let mut i: usize = 0;
-    while i < categories.len() {
-        most = larger(most, excess(categories[i], phases[i]));
-        i = i + 1;
+    for i in 0..categories.len() {
+        most = most.max(excess(categories[i], phases[i]));
     }
     most
 }
@@ -64,26 +59,21 @@ pub fn first_not_allowed(categories: &[u8], phases: &[u8]) -> usize
     if largest_excess(categories, phases) == 0 {
         return categories.len();
     }
-    let mut i: usize = 0;
-    while i < categories.len() {
+    for i in 0..categories.len() {
         if excess(categories[i], phases[i]) > 0 {
             return i;
         }
-        i = i + 1;
     }
-    i
+    categories.len()
 }
 
 // Whether a part has a bit for a sample: presence bits for each heterozygous call, phase bits for each phased one.
 fn has_bit(part: TrackPart, category: u8, phase: u8) -> bool
     ensures { result ≡ has_bit part category phase }
 {
-    if !is_heterozygous(category) {
-        return false;
-    }
     match part {
-        TrackPart::PresenceBits => true,
-        TrackPart::PhaseBits => phase != 0,
+        TrackPart::PresenceBits => is_heterozygous(category),
+        TrackPart::PhaseBits => is_heterozygous(category) && phase != 0,
     }
 }
 
@@ -92,29 +82,9 @@ fn bit_of(part: TrackPart, phase: u8) -> usize
     ensures { (result ≡ call_bit part phase) × (result < 2) }
 {
     match part {
-        TrackPart::PresenceBits => {
-            if phase == 0 {
-                return 0;
-            }
-            1
-        }
-        TrackPart::PhaseBits => {
-            if phase == 2 {
-                return 1;
-            }
-            0
-        }
+        TrackPart::PresenceBits => usize::from(phase != 0),
+        TrackPart::PhaseBits => usize::from(phase == 2),
     }
-}
-
-// How many bits a part has for a sample.
-fn count_bit(part: TrackPart, category: u8, phase: u8) -> usize
-    ensures { (result ≡ length (call_bits part category phase)) × (result < 2) }
-{
-    if has_bit(part, category, phase) {
-        return 1;
-    }
-    0
 }
 
 // How many bits a part has for a row's calls.
@@ -123,10 +93,8 @@ fn count_bits(part: TrackPart, categories: &[u8], phases: &[u8]) -> usize
     ensures { (result ≡ length (calls_bits part categories.now phases.now)) × (result ≤ most_samples) }
 {
     let mut count: usize = 0;
-    let mut i: usize = 0;
-    while i < categories.len() {
-        count = count + count_bit(part, categories[i], phases[i]);
-        i = i + 1;
+    for i in 0..categories.len() {
+        count += usize::from(has_bit(part, categories[i], phases[i]));
     }
     count
 }
@@ -138,7 +106,7 @@ pub fn track_size(categories: &[u8], phases: &[u8]) -> TrackSize
 {
     let heterozygous = count_bits(TrackPart::PresenceBits, categories, phases);
     let phased = count_bits(TrackPart::PhaseBits, categories, phases);
-    let bits = (phased + 7) / 8;
+    let bits = phased.div_ceil(8);
     if phased == heterozygous {
         return TrackSize {
             stored: false,
@@ -147,7 +115,7 @@ pub fn track_size(categories: &[u8], phases: &[u8]) -> TrackSize
     }
     TrackSize {
         stored: true,
-        bytes: (heterozygous + 8) / 8 + bits,
+        bytes: (1 + heterozygous).div_ceil(8) + bits,
     }
 }
 
@@ -198,10 +166,8 @@ fn put_part(
     ensures { Wrote output.old at (part_bytes part categories.now phases.now) result output.new }
 {
     let mut packing = begin_part(part, at);
-    let mut i: usize = 0;
-    while i < categories.len() {
+    for i in 0..categories.len() {
         packing = put_call(part, categories[i], phases[i], packing, output);
-        i = i + 1;
     }
     end_packed(packing, output)
 }

@@ -1,14 +1,15 @@
 -- `call_open::open` meets its contract.
 -- Assumes nothing.
 use borrow.Author.Rules.{rules}
+use Rattle.format.proofs.Exits.{handed_on}
 use Rattle.call_open.proofs.OpenLaws.{open_laws}
 use Rattle.call_open.proofs.open.Goals as goal
 
+pub returns-in_err-f : goal.returns-in_err-f
+returns-in_err-f c = rw (handed_on c.from_residual.ensures) (search (open_laws, c.in_err-f.was, rules))
+
 pub returns-then-lent-f : goal.returns-then-lent-f
-returns-then-lent-f c = search (open_laws, rules)
+returns-then-lent-f c = search (open_laws, c.in_ok-f.was, rules)
 
-pub returns-in-Refused : goal.returns-in-Refused
-returns-in-Refused c = search (open_laws, rules)
-
-pub returns-else-lent-f : goal.returns-else-lent-f
-returns-else-lent-f c = search (open_laws, rules)
+pub returns : goal.returns
+returns c = search (open_laws, c.in_ok-f.was, rules)

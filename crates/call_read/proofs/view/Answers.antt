@@ -13,11 +13,11 @@ slice_bounds-result-count c = search (view_laws, rules)
 pub slice_bounds-result-start : goal.slice_bounds-result-start
 slice_bounds-result-start c = search (view_laws, rules)
 
-pub slice_bounds-result-end-in-Accepted : goal.slice_bounds-result-end-in-Accepted
-slice_bounds-result-end-in-Accepted c = search (view_laws, rules)
+pub slice_bounds-result-end-in-Ok : goal.slice_bounds-result-end-in-Ok
+slice_bounds-result-end-in-Ok c = search (view_laws, rules)
 
-pub returns-in-Refused : goal.returns-in-Refused
-returns-in-Refused c = search (view_laws, rules)
+pub returns-in-Err : goal.returns-in-Err
+returns-in-Err c = search (view_laws, rules)
 
-pub returns-in-Accepted : goal.returns-in-Accepted
-returns-in-Accepted c = search (view_laws, rules)
+pub returns-in-Ok : goal.returns-in-Ok
+returns-in-Ok c = search (view_laws, rules)

@@ -4,8 +4,8 @@ use borrow.Author.Rules.{rules}
 use Rattle.call_rows.proofs.StepLaws.{kept_laws}
 use Rattle.call_rows.proofs.keep_row.Goals as goal
 
-pub returns-in-Refused : goal.returns-in-Refused
-returns-in-Refused c = search (kept_laws, rules)
+pub returns-in-Err : goal.returns-in-Err
+returns-in-Err c = search (kept_laws, rules)
 
-pub returns-in-Accepted : goal.returns-in-Accepted
-returns-in-Accepted c = search (kept_laws, rules)
+pub returns-in-Ok : goal.returns-in-Ok
+returns-in-Ok c = search (kept_laws, rules)

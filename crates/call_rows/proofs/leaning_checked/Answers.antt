@@ -1,11 +1,12 @@
 -- `call_rows::leaning_checked` meets its contract.
 -- Assumes nothing.
 use borrow.Author.Rules.{rules}
+use Rattle.format.proofs.Exits.{handed_on}
 use Rattle.call_rows.proofs.StepLaws.{checked_laws}
 use Rattle.call_rows.proofs.leaning_checked.Goals as goal
 
-pub returns-then-anchors-ne0 : goal.returns-then-anchors-ne0
-returns-then-anchors-ne0 c = search (checked_laws, rules)
+pub returns-in_err-rows : goal.returns-in_err-rows
+returns-in_err-rows c = rw (handed_on c.from_residual.ensures) (search (checked_laws, c.in_err-rows.was, rules))
 
 pub returns : goal.returns
-returns c = search (checked_laws, rules)
+returns c = search (checked_laws, c.in_ok-rows.was, rules)

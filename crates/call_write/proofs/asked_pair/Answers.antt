@@ -1,8 +1,8 @@
 -- `call_write::asked_pair` meets its contract: the code's row of the table, and none for a number past a byte.
 -- Assumes nothing.
-use borrow.Author.Rules.{rules}
-use Rattle.call_write.proofs.AskedLaws.{pair_laws}
+use mathlib.Core.Path.{◌∙◌}
+use Rattle.call_write.proofs.AskedLaws.{code_past}
 use Rattle.call_write.proofs.asked_pair.Goals as goal
 
-pub returns-then-code-gt255 : goal.returns-then-code-gt255
-returns-then-code-gt255 c = search (pair_laws, rules)
+pub returns-in_err-code : goal.returns-in_err-code
+returns-in_err-code c = c.from_residual.ensures ∙ code_past c.args.code c.try_from.result c.try_from.ensures c.in_err-code.ensures.value

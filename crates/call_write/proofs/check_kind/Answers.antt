@@ -3,15 +3,17 @@
 use borrow.Author.Rules.{rules}
 use Rattle.call_write.proofs.CheckLaws.{kind_laws}
 use Rattle.call_write.proofs.check_kind.Goals as goal
+use Rattle.call_write.proofs.check_kind.Goals.{then-samples-eq0-via-then-samples-eq0, then-samples-eq0-via-else-samples-eq0+then-samples-gt-MOST_SAMPLES}
 
 pub returns-then-samples-eq0 : goal.returns-then-samples-eq0
-returns-then-samples-eq0 c = search (kind_laws, rules)
+returns-then-samples-eq0 c =
+    elim c.then-samples-eq0.branch [
+      | then-samples-eq0-via-then-samples-eq0 w ↦ search (kind_laws, rules)
+      | then-samples-eq0-via-else-samples-eq0+then-samples-gt-MOST_SAMPLES w ↦ search (kind_laws, rules)
+    ]
 
-pub returns-then-samples-gt-MOST_SAMPLES : goal.returns-then-samples-gt-MOST_SAMPLES
-returns-then-samples-gt-MOST_SAMPLES c = search (kind_laws, rules)
-
-pub returns-then-not-is_allowed : goal.returns-then-not-is_allowed
-returns-then-not-is_allowed c = search (kind_laws, rules)
+pub returns-in_default : goal.returns-in_default
+returns-in_default c = search (kind_laws, c.in_default.is, rules)
 
 pub returns-then-anchor-anchor_size : goal.returns-then-anchor-anchor_size
 returns-then-anchor-anchor_size c = search (kind_laws, rules)

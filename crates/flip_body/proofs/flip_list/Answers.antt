@@ -7,8 +7,8 @@ use Rattle.flip_body.proofs.flip_list.Goals as goal
 pub past-requires : goal.past-requires
 past-requires c = search (list_laws, rules)
 
-pub returns-in-Refused : goal.returns-in-Refused
-returns-in-Refused c = search (list_laws, rules)
+pub returns-in_default : goal.returns-in_default
+returns-in_default c = search (list_laws, rules)
 
 pub returns-then-count-n : goal.returns-then-count-n
 returns-then-count-n c = search (list_laws, rules)

@@ -1,4 +1,3 @@
-use Prim.Native.Nat.{◌-◌}
 use lib.ListN.{length}
 use Rattle.format.specs.Limits.{variants_to_a_block}
 use Rattle.format.specs.Reply.{member}
@@ -11,6 +10,3 @@ abbrev pub invariant-loop-v : goal.invariant-loop-v
 invariant-loop-v l =
     Bodies (fixed l.f) (member l.set) (all_bodies variants_to_a_block (fixed l.f) (member l.set) l.initial.file) (length l.initial.file)
     l.file l.v l.start l.lent
-
-abbrev pub decreases-loop-v : goal.decreases-loop-v
-decreases-loop-v l = l.m - l.v

@@ -6,16 +6,16 @@ use Rattle.flip_phase.proofs.FileLaws.{records_laws}
 use Rattle.flip_phase.proofs.flip_records.Goals as goal
 
 pub first_record-start-requires : goal.first_record-start-requires
-first_record-start-requires c = search (records_laws, pass_laws, rules)
+first_record-start-requires c = search (pass_laws, records_laws, rules)
 
 pub loop-v-init : goal.loop-v-init
-loop-v-init c = search (records_laws, pass_laws, rules)
+loop-v-init c = search (pass_laws, records_laws, rules)
 
 pub overflow_add-end : goal.overflow_add-end
-overflow_add-end c = search (records_laws, pass_laws, rules)
+overflow_add-end c = search (pass_laws, records_laws, rules)
 
 pub flip_record-h-requires : goal.flip_record-h-requires
-flip_record-h-requires c = search (records_laws, pass_laws, rules)
+flip_record-h-requires c = search (pass_laws, records_laws, rules)
 
 pub loop-v-preserved : goal.loop-v-preserved
-loop-v-preserved c = search (records_laws, pass_laws, rules)
+loop-v-preserved c = search (pass_laws, records_laws, rules)

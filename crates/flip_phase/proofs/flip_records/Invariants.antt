@@ -1,4 +1,3 @@
-use Prim.Native.Nat.{◌-◌}
 use lib.ListN.{length}
 use Rattle.format.specs.Limits.{variants_to_a_block}
 use Rattle.format.specs.Reply.{member}
@@ -10,6 +9,3 @@ abbrev pub invariant-loop-v : goal.invariant-loop-v
 invariant-loop-v l =
     Turning (member l.set) l.f (phases_flipped variants_to_a_block (member l.set) l.initial.file) (length l.initial.file)
     l.initial.row l.file l.row l.start l.v l.h
-
-abbrev pub decreases-loop-v : goal.decreases-loop-v
-decreases-loop-v l = l.m - l.v

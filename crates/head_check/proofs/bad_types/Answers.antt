@@ -7,8 +7,8 @@ use Rattle.head_check.proofs.bad_types.Goals as goal
 pub bad_type-requires : goal.bad_type-requires
 bad_type-requires c = search (eight_laws, rules)
 
-pub returns-in-At : goal.returns-in-At
-returns-in-At c = search (eight_laws, rules)
+pub returns-in-Some : goal.returns-in-Some
+returns-in-Some c = search (eight_laws, rules)
 
-pub returns-in-Nowhere : goal.returns-in-Nowhere
-returns-in-Nowhere c = search (eight_laws, rules)
+pub returns-in-None : goal.returns-in-None
+returns-in-None c = search (eight_laws, rules)

@@ -16,8 +16,8 @@ overflow_add-block c = search (nine_laws, rules)
 pub returns-then-last-file : goal.returns-then-last-file
 returns-then-last-file c = search (nine_laws, rules)
 
-pub returns-in-WrongOffset : goal.returns-in-WrongOffset
-returns-in-WrongOffset c = search (nine_laws, rules)
+pub returns-in-Err : goal.returns-in-Err
+returns-in-Err c = search (nine_laws, rules)
 
 pub returns-else-last-file : goal.returns-else-last-file
 returns-else-last-file c = search (nine_laws, rules)

@@ -7,8 +7,8 @@ use Rattle.head_check.proofs.find_unused.Goals as goal
 pub unused_in-requires : goal.unused_in-requires
 unused_in-requires c = search (seven_laws, rules)
 
-pub returns-in-At : goal.returns-in-At
-returns-in-At c = search (seven_laws, rules)
+pub returns-in-Some : goal.returns-in-Some
+returns-in-Some c = search (seven_laws, rules)
 
-pub returns-in-Clear : goal.returns-in-Clear
-returns-in-Clear c = search (seven_laws, rules)
+pub returns-in-None : goal.returns-in-None
+returns-in-None c = search (seven_laws, rules)

@@ -7,5 +7,5 @@ use Rattle.head_columns.proofs.type_place.Goals as goal
 pub returns-then-b : goal.returns-then-b
 returns-then-b c = search (place_laws, rules)
 
-pub returns : goal.returns
-returns c = search (place_laws, rules)
+pub returns-else-b : goal.returns-else-b
+returns-else-b c = search (place_laws, rules)

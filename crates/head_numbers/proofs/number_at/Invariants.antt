@@ -2,7 +2,4 @@ use Rattle.head_numbers.proofs.Numbers.{Reading}
 use Rattle.head_numbers.proofs.number_at.Given as goal
 
 abbrev pub invariant-loop-i : goal.invariant-loop-i
-invariant-loop-i l = Reading l.file l.at l.width l.i l.number
-
-abbrev pub decreases-loop-i : goal.decreases-loop-i
-decreases-loop-i l = l.i
+invariant-loop-i l = Reading l.file l.at l.i l.number

@@ -4,11 +4,11 @@ use borrow.Author.Rules.{rules}
 use Rattle.head_records.proofs.ReadLaws.{first_bytes}
 use Rattle.head_records.proofs.number_from.Goals as goal
 
-pub returns-then-width-eq1 : goal.returns-then-width-eq1
-returns-then-width-eq1 c = search (first_bytes 1 3, rules)
+pub returns-in-1 : goal.returns-in-1
+returns-in-1 c = search (first_bytes 1 3, rules)
 
-pub returns-then-width-eq2 : goal.returns-then-width-eq2
-returns-then-width-eq2 c = search (first_bytes 2 2, rules)
+pub returns-in-2 : goal.returns-in-2
+returns-in-2 c = search (first_bytes 2 2, rules)
 
-pub returns-then-width-eq3 : goal.returns-then-width-eq3
-returns-then-width-eq3 c = search (first_bytes 3 1, rules)
+pub returns-in-3 : goal.returns-in-3
+returns-in-3 c = search (first_bytes 3 1, rules)

@@ -10,5 +10,5 @@ type_at-requires c = search (type_laws, rules)
 pub returns-then-type_place-file : goal.returns-then-type_place-file
 returns-then-type_place-file c = search (type_laws, rules)
 
-pub returns : goal.returns
-returns c = search (type_laws, rules)
+pub returns-else-type_place-file : goal.returns-else-type_place-file
+returns-else-type_place-file c = search (type_laws, rules)

@@ -7,5 +7,5 @@ use Rattle.head_records.proofs.type_of.Goals as goal
 pub returns-then-is_unblocked : goal.returns-then-is_unblocked
 returns-then-is_unblocked c = search (mode_laws, rules)
 
-pub returns : goal.returns
-returns c = search (mode_laws, rules)
+pub returns-else-is_unblocked : goal.returns-else-is_unblocked
+returns-else-is_unblocked c = search (mode_laws, rules)

@@ -4,7 +4,4 @@ use Rattle.head_types.proofs.Back.{Backing}
 use Rattle.head_types.proofs.nearest_before.Given as goal
 
 abbrev pub invariant-loop-k : goal.invariant-loop-k
-invariant-loop-k l = Backing l.file l.at l.n (pick l.half four eight) l.k
-
-abbrev pub decreases-loop-k : goal.decreases-loop-k
-decreases-loop-k l = l.k
+invariant-loop-k l = Backing l.file l.at l.fn.i.0 (pick l.half four eight) l.k

@@ -1,4 +1,3 @@
-use Prim.Native.Nat.{◌-◌}
 use Rattle.format.specs.Base.{pick}
 use Rattle.format.specs.Packed.{four, eight}
 use Rattle.head_types.proofs.Scanning.{Scanning}
@@ -6,6 +5,3 @@ use Rattle.head_types.proofs.scan.Given as goal
 
 abbrev pub invariant-loop-i : goal.invariant-loop-i
 invariant-loop-i l = Scanning l.file l.at l.n (pick l.half four eight) l.i
-
-abbrev pub decreases-loop-i : goal.decreases-loop-i
-decreases-loop-i l = l.n - l.i

@@ -7,8 +7,8 @@ use Rattle.head_types.proofs.type_at.Goals as goal
 pub returns-then-n-eq0 : goal.returns-then-n-eq0
 returns-then-n-eq0 c = search (type_laws, rules)
 
-pub returns-then-half : goal.returns-then-half
-returns-then-half c = search (type_laws, rules)
+pub returns-then-not-half : goal.returns-then-not-half
+returns-then-not-half c = search (type_laws, rules)
 
-pub returns : goal.returns
-returns c = search (type_laws, rules)
+pub returns-else-n-eq0 : goal.returns-else-n-eq0
+returns-else-n-eq0 c = search (type_laws, rules)

@@ -4,14 +4,17 @@ use borrow.Author.Rules.{rules}
 use Rattle.read_calls.proofs.CountedTrackLaws.{track_laws}
 use Rattle.read_calls.proofs.count_track.Goals as goal
 
-pub returns-then-number-eq0 : goal.returns-then-number-eq0
-returns-then-number-eq0 c = search (track_laws, rules)
+pub returns-in-Array : goal.returns-in-Array
+returns-in-Array c = search (track_laws, rules)
 
-pub returns-then-number-eq1 : goal.returns-then-number-eq1
-returns-then-number-eq1 c = search (track_laws, rules)
+pub returns-in-Paired : goal.returns-in-Paired
+returns-in-Paired c = search (track_laws, rules)
 
-pub returns-then-number-lt4 : goal.returns-then-number-lt4
-returns-then-number-lt4 c = search (track_laws, rules)
+pub returns-in-AgainstAnchor : goal.returns-in-AgainstAnchor
+returns-in-AgainstAnchor c = search (track_laws, rules)
 
-pub returns : goal.returns
-returns c = search (track_laws, rules)
+pub returns-in-AgainstCategory : goal.returns-in-AgainstCategory
+returns-in-AgainstCategory c = search (track_laws, rules)
+
+pub returns-in-NoKind : goal.returns-in-NoKind
+returns-in-NoKind c = search (track_laws, rules)

@@ -13,14 +13,11 @@ overflow_add-end c = search (check_laws, rules)
 pub slice_bounds-check_next-end : goal.slice_bounds-check_next-end
 slice_bounds-check_next-end c = search (check_laws, rules)
 
-pub check_next-got-requires-clause-at_in_bounds : goal.check_next-got-requires-clause-at_in_bounds
-check_next-got-requires-clause-at_in_bounds c = search (check_laws, rules)
+pub check_next-got-requires : goal.check_next-got-requires
+check_next-got-requires c = search (check_laws, rules)
 
-pub check_next-got-requires-clause-fact : goal.check_next-got-requires-clause-fact
-check_next-got-requires-clause-fact c = search (check_laws, rules)
-
-pub returns-in-Refused : goal.returns-in-Refused
-returns-in-Refused c = search (check_laws, rules)
+pub returns-in-Err : goal.returns-in-Err
+returns-in-Err c = search (check_laws, rules)
 
 pub loop-v-preserved : goal.loop-v-preserved
 loop-v-preserved c = search (check_laws, rules)

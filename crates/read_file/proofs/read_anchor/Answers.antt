@@ -10,11 +10,8 @@ anchor_of-anchor-requires c = search (anchor_laws, rules)
 pub slice_bounds-read_body-end : goal.slice_bounds-read_body-end
 slice_bounds-read_body-end c = search (anchor_laws, rules)
 
-pub read_body-got-requires-clause-at_in_bounds : goal.read_body-got-requires-clause-at_in_bounds
-read_body-got-requires-clause-at_in_bounds c = search (anchor_laws, rules)
-
-pub read_body-got-requires-clause-fact : goal.read_body-got-requires-clause-fact
-read_body-got-requires-clause-fact c = search (anchor_laws, rules)
+pub read_body-got-requires : goal.read_body-got-requires
+read_body-got-requires c = search (anchor_laws, rules)
 
 pub returns-then-type_leans : goal.returns-then-type_leans
 returns-then-type_leans c = search (anchor_laws, rules)

@@ -10,8 +10,5 @@ slice_bounds-read_straight-end c = search (given_laws, rules)
 pub read_straight-got-requires-clause-at_in_bounds : goal.read_straight-got-requires-clause-at_in_bounds
 read_straight-got-requires-clause-at_in_bounds c = search (given_laws, rules)
 
-pub read_straight-got-requires-clause-fact : goal.read_straight-got-requires-clause-fact
-read_straight-got-requires-clause-fact c = search (given_laws, rules)
-
 pub returns : goal.returns
 returns c = search (given_laws, rules)

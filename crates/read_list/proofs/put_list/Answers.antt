@@ -8,8 +8,8 @@ pub put_parts-got-requires-clause-lists : goal.put_parts-got-requires-clause-lis
 put_parts-got-requires-clause-lists c =
     list_known _ _ _ _ _ c.type_inv.s c.requires.at_in_bounds c.requires.n_in_bounds.0 _ c.requires.lists
 
-pub returns-in-Listed : goal.returns-in-Listed
-returns-in-Listed c = search (list_laws, rules)
+pub returns-then-is_err : goal.returns-then-is_err
+returns-then-is_err c = search (list_laws, rules)
 
-pub returns-in-Refused : goal.returns-in-Refused
-returns-in-Refused c = search (list_laws, rules)
+pub returns-else-is_err : goal.returns-else-is_err
+returns-else-is_err c = search (list_laws, rules)

@@ -4,4 +4,6 @@ use Rattle.read_packed.proofs.StoreLaws.{Storing}
 use Rattle.read_packed.proofs.store_rest.Given as goal
 
 abbrev pub invariant-loop-k : goal.invariant-loop-k
-invariant-loop-k l = Storing (number_in (bits_of l.width) l.s l.at) l.n l.k l.initial.row l.row (store (number_in (bits_of l.width) l.s l.at) (l.n - l.from) l.from l.initial.row)
+invariant-loop-k l =
+    Storing (number_in (bits_of l.width) l.s l.at) l.n l.k l.initial.row l.row
+    (store (number_in (bits_of l.width) l.s l.at) (l.n - l.from) l.from l.initial.row)

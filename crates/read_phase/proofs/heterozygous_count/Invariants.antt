@@ -1,9 +1,6 @@
-use Prim.Native.Nat.{◌-◌}
+use lib.ListN.{take}
 use Rattle.read_phase.proofs.CountLaws.{CountingParts}
 use Rattle.read_phase.proofs.heterozygous_count.Given as goal
 
-abbrev pub invariant-loop-i : goal.invariant-loop-i
-invariant-loop-i l = CountingParts l.row l.n l.count l.i
-
-abbrev pub decreases-loop-i : goal.decreases-loop-i
-decreases-loop-i l = l.n - l.i
+abbrev pub invariant-loop-part : goal.invariant-loop-part
+invariant-loop-part l = CountingParts (take l.n l.row) l.part-iterator.rest.now l.rest l.part-iterator.size l.count

@@ -4,8 +4,11 @@ use borrow.Author.Rules.{rules}
 use Rattle.read_phase.proofs.OnesLaws.{ones_laws}
 use Rattle.read_phase.proofs.ones_in.Goals as goal
 
-pub loop-i-preserved : goal.loop-i-preserved
-loop-i-preserved c = search (ones_laws, rules)
+pub overflow_add-count : goal.overflow_add-count
+overflow_add-count c = search (ones_laws, rules)
+
+pub loop-b-preserved : goal.loop-b-preserved
+loop-b-preserved c = search (ones_laws, rules)
 
 pub returns : goal.returns
 returns c = search (ones_laws, rules)

@@ -1,5 +1,5 @@
 use Rattle.read_phase.proofs.OnesLaws.{CountingOnes}
 use Rattle.read_phase.proofs.ones_in.Given as goal
 
-abbrev pub invariant-loop-i : goal.invariant-loop-i
-invariant-loop-i l = CountingOnes l.part l.count l.i
+abbrev pub invariant-loop-b : goal.invariant-loop-b
+invariant-loop-b l = CountingOnes l.part l.count l.b-index

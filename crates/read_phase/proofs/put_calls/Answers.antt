@@ -11,13 +11,13 @@ pub bounds-output-k : goal.bounds-output-k
 bounds-output-k c = search (put_laws, rules)
 
 pub overflow_add-p : goal.overflow_add-p
-overflow_add-p c = search (put_laws, rules)
+overflow_add-p c = rw c.from-p.ensures (search (put_laws, rules))
 
 pub loop-p-smaller : goal.loop-p-smaller
 loop-p-smaller c = search (put_laws, rules)
 
 pub loop-p-preserved : goal.loop-p-preserved
-loop-p-preserved c = search (put_laws, rules)
+loop-p-preserved c = rw c.from-p.ensures (search (put_laws, rules))
 
 pub returns : goal.returns
 returns c = search (put_laws, rules)

@@ -17,4 +17,4 @@ pub overflow_mul-output : goal.overflow_mul-output
 overflow_mul-output c = search (sample_laws, rules)
 
 pub loop-i-preserved : goal.loop-i-preserved
-loop-i-preserved c = search (sample_laws, rules)
+loop-i-preserved c = rw c.from-k.ensures (search (sample_laws, rules))

@@ -1,11 +1,12 @@
 -- `read_record::read_body` meets its contract.
 -- Assumes nothing.
 use borrow.Author.Rules.{rules}
+use Rattle.format.proofs.Exits.{handed_on}
 use Rattle.read_record.proofs.TracksLaws.{body_laws}
 use Rattle.read_record.proofs.read_body.Goals as goal
 
-pub returns-in-Refused : goal.returns-in-Refused
-returns-in-Refused c = search (body_laws, rules)
+pub returns-in_err-read_tracks : goal.returns-in_err-read_tracks
+returns-in_err-read_tracks c = rw (handed_on c.from_residual.ensures) (search (body_laws, c.in_err-read_tracks.was, rules))
 
-pub returns-in-Listed : goal.returns-in-Listed
-returns-in-Listed c = search (body_laws, rules)
+pub returns : goal.returns
+returns c = search (body_laws, c.in_ok-read_tracks.was, rules)

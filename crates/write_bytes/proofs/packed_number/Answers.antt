@@ -4,11 +4,8 @@ use borrow.Author.Rules.{rules}
 use Rattle.write_bytes.proofs.ArrayLaws.{number_at_laws}
 use Rattle.write_bytes.proofs.packed_number.Goals as goal
 
-pub returns-then-category-higher : goal.returns-then-category-higher
-returns-then-category-higher c = search (number_at_laws, rules)
-
 pub returns-in-Categories : goal.returns-in-Categories
 returns-in-Categories c = search (number_at_laws, rules)
 
-pub returns-else-category-higher : goal.returns-else-category-higher
-returns-else-category-higher c = search (number_at_laws, rules)
+pub returns-in-Bits : goal.returns-in-Bits
+returns-in-Bits c = search (number_at_laws, rules)

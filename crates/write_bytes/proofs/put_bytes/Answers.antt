@@ -4,11 +4,11 @@ use borrow.Author.Rules.{rules}
 use Rattle.write_bytes.proofs.ArrayLaws.{bytes_laws}
 use Rattle.write_bytes.proofs.put_bytes.Goals as goal
 
-pub bounds-output-place : goal.bounds-output-place
-bounds-output-place c = search (bytes_laws, rules)
+pub bounds-output-at : goal.bounds-output-at
+bounds-output-at c = search (bytes_laws, rules)
 
-pub loop-i-preserved : goal.loop-i-preserved
-loop-i-preserved c = search (bytes_laws, rules)
+pub loop-k-preserved : goal.loop-k-preserved
+loop-k-preserved c = search (bytes_laws, rules)
 
 pub returns : goal.returns
 returns c = search (bytes_laws, rules)

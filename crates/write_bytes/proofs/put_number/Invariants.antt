@@ -1,9 +1,5 @@
-use Prim.Native.Nat.{◌-◌}
 use Rattle.write_bytes.proofs.NumberLaws.{NumberGoing}
 use Rattle.write_bytes.proofs.put_number.Given as goal
 
 abbrev pub invariant-loop-place : goal.invariant-loop-place
 invariant-loop-place l = NumberGoing l.number l.width l.initial.output l.at l.end l.output l.rest l.place
-
-abbrev pub decreases-loop-place : goal.decreases-loop-place
-decreases-loop-place l = l.end - l.place

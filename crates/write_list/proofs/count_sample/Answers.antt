@@ -4,5 +4,5 @@ use borrow.Author.Rules.{rules}
 use Rattle.write_list.proofs.CountLaws.{counts_laws}
 use Rattle.write_list.proofs.count_sample.Goals as goal
 
-pub overflow_add-steps : goal.overflow_add-steps
-overflow_add-steps c = search (counts_laws, rules)
+pub overflow_add-result-2 : goal.overflow_add-result-2
+overflow_add-result-2 c = search (counts_laws, rules)

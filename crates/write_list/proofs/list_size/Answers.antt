@@ -10,9 +10,6 @@ returns-then-count-eq0 c = search (list_size_laws, rules)
 pub groups-heads-requires : goal.groups-heads-requires
 groups-heads-requires c = search (list_size_laws, rules)
 
-pub overflow_add-values : goal.overflow_add-values
-overflow_add-values c = search (list_size_laws, rules)
-
 pub varint_size-requires : goal.varint_size-requires
 varint_size-requires c = search (list_size_laws, rules)
 

@@ -7,8 +7,8 @@ use Rattle.write_parts.proofs.advance.Goals as goal
 pub returns-then-group-eq0 : goal.returns-then-group-eq0
 returns-then-group-eq0 c = search (advance_laws, rules)
 
-pub overflow_add-size : goal.overflow_add-size
-overflow_add-size c = search (advance_laws, rules)
+pub overflow_add-result : goal.overflow_add-result
+overflow_add-result c = search (advance_laws, rules)
 
 pub returns : goal.returns
 returns c = search (advance_laws, rules)

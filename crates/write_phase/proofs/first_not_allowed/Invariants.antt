@@ -1,10 +1,5 @@
-use lib.ListN.{length}
-use Prim.Native.Nat.{◌-◌}
 use Rattle.write_phase.proofs.AllowedLaws.{Going}
 use Rattle.write_phase.proofs.first_not_allowed.Given as goal
 
 abbrev pub invariant-loop-i : goal.invariant-loop-i
 invariant-loop-i l = Going l.categories l.phases l.i
-
-abbrev pub decreases-loop-i : goal.decreases-loop-i
-decreases-loop-i l = length l.categories - l.i

@@ -13,8 +13,5 @@ returns-then-not-type_follows c = search (record_laws, rules)
 pub returns-then-held-start : goal.returns-then-held-start
 returns-then-held-start c = search (record_laws, rules)
 
-pub returns-then-held-start-2 : goal.returns-then-held-start-2
-returns-then-held-start-2 c = search (record_laws, rules)
-
 pub returns : goal.returns
 returns c = search (record_laws, rules)

@@ -13,8 +13,8 @@ returns-then-type_leans c = search (next_phased_laws, rules)
 pub phased_alone-requires-clause-row_ready : goal.phased_alone-requires-clause-row_ready
 phased_alone-requires-clause-row_ready c = search (next_phased_laws, rules)
 
-pub returns-in-Refused : goal.returns-in-Refused
-returns-in-Refused c = search (next_phased_laws, rules)
+pub returns-in-Err : goal.returns-in-Err
+returns-in-Err c = search (next_phased_laws, rules)
 
 pub returns-else-type_leans : goal.returns-else-type_leans
 returns-else-type_leans c = search (next_phased_laws, rules)

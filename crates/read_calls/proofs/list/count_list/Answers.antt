@@ -1,26 +1,27 @@
 -- `read_calls::list::count_list` meets its contract.
 -- Assumes nothing.
 use borrow.Author.Rules.{rules}
+use Rattle.format.proofs.Exits.{handed_on}
 use Rattle.read_calls.proofs.CountAgrees.{count_list_laws, count_fits}
 use Rattle.read_calls.proofs.BaseLaws.{base_long}
 use Rattle.read_calls.proofs.list.count_list.Goals as goal
 
-pub returns-then-m-eq0 : goal.returns-then-m-eq0
-returns-then-m-eq0 c = search (count_list_laws, rules)
+pub returns-in_err-m : goal.returns-in_err-m
+returns-in_err-m c = rw (handed_on c.from_residual.ensures) (search (count_list_laws, c.in_err-m.was, rules))
 
-pub lay_parts-laid-requires : goal.lay_parts-laid-requires
-lay_parts-laid-requires c = search (count_list_laws, rules)
+pub returns-then-m-eq0 : goal.returns-then-m-eq0
+returns-then-m-eq0 c = search (count_list_laws, c.in_ok-m.was, rules)
+
+pub lay_parts-requires : goal.lay_parts-requires
+lay_parts-requires c = search (count_list_laws, c.in_ok-m.was, rules)
+
+pub returns-in_err-values : goal.returns-in_err-values
+returns-in_err-values c = rw (handed_on c.from_residual-in_err-values.ensures) (search (count_list_laws, c.in_ok-m.was, c.in_err-values.was, rules))
 
 pub count_entries-requires-clause-room : goal.count_entries-requires-clause-room
-count_entries-requires-clause-room c = search (count_list_laws, rules)
+count_entries-requires-clause-room c = search (count_list_laws, c.in_ok-m.was, c.in_ok-values.was, rules)
 
-pub returns-in-Refused : goal.returns-in-Refused
-returns-in-Refused c = search (count_list_laws, rules)
-
-pub returns-in-Refused-laid : goal.returns-in-Refused-laid
-returns-in-Refused-laid c = search (count_list_laws, rules)
-
-pub returns-in-Fits : goal.returns-in-Fits
-returns-in-Fits c =
-    count_fits _ _ _ _ _ (base_long c.args.base _ c.args.row.now _) c.type_inv.s c.requires.at_in_bounds.0 _ c.read_count-listed.ensures _ _
-    c.in-Of.is c.if-m-eq0.false _ c.lay_parts-laid.ensures _ _ c.in-Fits.is _ c.count_entries.ensures
+pub returns : goal.returns
+returns c =
+    count_fits _ _ _ _ _ (base_long c.args.base _ c.args.row.now _) c.type_inv.s c.requires.at_in_bounds.0 _ c.read_count.ensures _ _
+    c.in_ok-m.was c.if-m-eq0.false _ c.lay_parts.ensures _ _ c.in_ok-values.was _ c.count_entries.ensures

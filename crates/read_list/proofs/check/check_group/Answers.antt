@@ -4,5 +4,5 @@ use borrow.Author.Rules.{rules}
 use Rattle.read_list.proofs.RunWalks.{group_laws}
 use Rattle.read_list.proofs.check.check_group.Goals as goal
 
-pub returns : goal.returns
-returns c = search (group_laws, rules)
+pub returns-in-Some : goal.returns-in-Some
+returns-in-Some c = search (group_laws, rules)

@@ -11,5 +11,5 @@ loop-passed-init c = search (check_walk_laws, rules)
 
 pub loop-passed-preserved : goal.loop-passed-preserved
 loop-passed-preserved c =
-    check_walk_turn c.loop-passed.invariant c.loop-passed-test.true c.if-step-n.false c.type_inv.s c.short.ensures c.in-Short.is c.if-step-eq0.false
+    check_walk_turn c.loop-passed.invariant c.loop-passed-test.true c.if-step-n.false c.type_inv.s c.short.ensures c.in-Some.is c.if-step-eq0.false
     c.two_bits-value.ensures c.may_hold.ensures (ap not c.if-not-may_hold.false)

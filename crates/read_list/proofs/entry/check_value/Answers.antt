@@ -4,8 +4,8 @@ use borrow.Author.Rules.{rules}
 use Rattle.read_list.proofs.EntryLaws.{value_laws}
 use Rattle.read_list.proofs.entry.check_value.Goals as goal
 
-pub returns-then-may_hold : goal.returns-then-may_hold
-returns-then-may_hold c = search (value_laws, rules)
+pub returns-then-not-may_hold : goal.returns-then-not-may_hold
+returns-then-not-may_hold c = search (value_laws, rules)
 
 pub returns : goal.returns
 returns c = search (value_laws, rules)

@@ -20,4 +20,4 @@ bounds-row-last c = search (walks_laws, fours_laws, rules)
 
 pub loop-done-preserved : goal.loop-done-preserved
 loop-done-preserved c =
-    walks_turn c.loop-done.invariant c.loop-done-test.true c.requires.accepted c.short.ensures c.in-Short.is c.type_inv.s c.two_bits.ensures
+    walks_turn c.loop-done.invariant c.loop-done-test.true c.requires.accepted c.short.ensures c.in-Some.is c.type_inv.s c.two_bits.ensures

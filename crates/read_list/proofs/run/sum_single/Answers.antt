@@ -8,4 +8,4 @@ pub loop-i-init : goal.loop-i-init
 loop-i-init c = search (sum_laws, rules)
 
 pub loop-i-preserved : goal.loop-i-preserved
-loop-i-preserved c = search (sum_laws, rules)
+loop-i-preserved c = rw c.from-sum.ensures (search (sum_laws, rules))

@@ -1,0 +1,18 @@
+-- `head_numbers::number_of` meets its contract: the loop's invariant is `Reading`.
+-- Assumes nothing.
+use borrow.Author.Rules.{rules}
+use native.Mathlib.Omega.{arith}
+use Rattle.head_numbers.proofs.Numbers.{goes_on, more_fits, reading_laws}
+use Rattle.head_numbers.proofs.number_of.Goals as goal
+
+pub loop-i-init : goal.loop-i-init
+loop-i-init g c = search (reading_laws, rules)
+
+pub overflow_add-number : goal.overflow_add-number
+overflow_add-number g c = more_fits c.loop-i.invariant c.type_inv.file c.from.ensures (omega arith)
+
+pub loop-i-preserved : goal.loop-i-preserved
+loop-i-preserved g c = goes_on c.loop-i.invariant c.type_inv.file c.from.ensures (omega arith)
+
+pub returns : goal.returns
+returns g c = (search (reading_laws, rules), search (reading_laws, rules))

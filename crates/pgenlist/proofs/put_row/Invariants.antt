@@ -1,9 +1,0 @@
--- The row is gone through once.
-use Rattle.std.proofs.Common.{◌≤◌, ◌-◌, length}
-use Rattle.pgenlist.proofs.put_row.Given as goal
-
-abbrev pub invariant-loop-i : goal.invariant-loop-i
-invariant-loop-i l = l.i ≤ length l.row
-
-abbrev pub decreases-loop-i : goal.decreases-loop-i
-decreases-loop-i l = length l.row - l.i
