@@ -37,15 +37,15 @@ fn varint_from(
     }
     if more == 0 {
         if b < 16 {
-            return Ok((b as usize, next));
+            return Ok((usize::from(b), next));
         }
         return Err(refusal_at(15, first));
     }
     if b < 128 {
-        return Ok((b as usize, next));
+        return Ok((usize::from(b), next));
     }
     let (n, end) = varint_from(s, first, more - 1, 1, next)?;
-    Ok((128 * n + (b - 128) as usize, end))
+    Ok((128 * n + usize::from(b - 128), end))
 }
 
 impl Cursor {
@@ -81,7 +81,7 @@ impl Cursor {
         }
         let low = s[first];
         if low < 128 {
-            return Some((low as usize, Cursor { at: first + 1 }));
+            return Some((usize::from(low), Cursor { at: first + 1 }));
         }
         if first + 1 >= s.len() {
             return None;
@@ -94,7 +94,7 @@ impl Cursor {
             return None;
         }
         Some((
-            128 * (high as usize) + (low - 128) as usize,
+            128 * usize::from(high) + usize::from(low - 128),
             Cursor { at: first + 2 },
         ))
     }
@@ -105,14 +105,14 @@ impl Cursor {
         ensures { result ≡ number_step width s.now self.at }
     {
         let at = self.at;
-        let low = s[at] as usize;
+        let low = usize::from(s[at]);
         if width == 1 {
             return NumberStep {
                 value: low,
                 next: Cursor { at: at + 1 },
             };
         }
-        let high = s[at + 1] as usize;
+        let high = usize::from(s[at + 1]);
         NumberStep {
             value: high * 256 + low,
             next: Cursor { at: at + 2 },

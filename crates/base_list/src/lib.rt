@@ -17,5 +17,5 @@ pub fn groups(count: usize) -> usize
     requires { count ≤ most_samples }
     ensures { result ≡ groups count }
 {
-    (count + 63) / 64
+    count.div_ceil(64)
 }

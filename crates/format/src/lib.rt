@@ -108,8 +108,5 @@ pub fn named(variant: FileVariant, why: Refusal) -> Refusal
 pub fn named_reply(variant: FileVariant, reply: Result<(), Refusal>) -> Result<(), Refusal>
     ensures { result ≡ named_reply variant reply }
 {
-    match reply {
-        Ok(()) => Ok(()),
-        Err(why) => Err(named(variant, why)),
-    }
+    reply.map_err(|why| named(variant, why))
 }

@@ -57,8 +57,8 @@ fn packed_calls(part: &[u8]) -> usize
     ensures { result ≡ byte_calls part.now }
 {
     let mut count: u32 = 0;
-    for i in 0..part.len() {
-        count = count + u8::count_ones(call_bits(part[i]));
+    for b in part {
+        count += u8::count_ones(call_bits(*b));
     }
     count as usize
 }

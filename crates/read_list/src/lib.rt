@@ -78,7 +78,7 @@ pub fn lay_parts(s: &[u8], n: usize, m: usize, c: Cursor) -> Result<(usize, Stat
     let groups = base_list::groups(m);
     let size = c.past(number_width(n) * groups);
     let values = size.past(groups - 1);
-    let steps = values.past((m + 3) / 4);
+    let steps = values.past(m.div_ceil(4));
     if steps.at > s.len() {
         return Err(refusal_at(12, s.len()));
     }

@@ -198,13 +198,11 @@ pub fn read_tracks(
     requires { (c.at ≤ length s.now) × (n ≤ most_samples) × (n ≤ length row.old) }
     ensures { list_left result row.new ≡ tracks_read n record_type s.now c.at row.old }
 {
-    match put_tracks(s, c, n, record_type, row) {
-        Err(why) => {
-            base_rows::clear(row, n);
-            Err(why)
-        }
-        Ok(next) => Ok(next),
+    let got = put_tracks(s, c, n, record_type, row);
+    if got.is_err() {
+        base_rows::clear(row, n);
     }
+    got
 }
 
 // The record of a type, at `c`, read into the row likewise.

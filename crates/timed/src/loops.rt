@@ -126,7 +126,7 @@ pub extern "C" fn timed_exchange_values(s: &mut [u8], n: usize) {
     if n > MOST_SAMPLES {
         return;
     }
-    if (n + 3) / 4 > s.len() {
+    if n.div_ceil(4) > s.len() {
         return;
     }
     flip_bytes::exchange_values(s, 0, n);
@@ -137,7 +137,7 @@ pub extern "C" fn timed_complement_bits(s: &mut [u8], n: usize) {
     if n > MOST_SAMPLES {
         return;
     }
-    if (n + 7) / 8 > s.len() {
+    if n.div_ceil(8) > s.len() {
         return;
     }
     flip_bytes::complement_bits(s, 0, n);

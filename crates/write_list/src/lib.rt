@@ -40,7 +40,7 @@ fn write_value(s: Sample, packing: Packing, output: &mut [u8]) -> Packing
     if s.value == s.base {
         return packing;
     }
-    put_packed(4, s.value as usize, packing, output)
+    put_packed(4, usize::from(s.value), packing, output)
 }
 
 // 01, Difference lists: "ceil(L/4) bytes of 2-bit values".
