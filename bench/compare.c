@@ -89,8 +89,6 @@ static struct rows bent(struct rows r, struct file f)
     case 6: r.anchor_refusal = rnd() % 30; break;
     default: r.anchor_place = x, r.anchor_named = few;
     }
-    // an anchor that was accepted has a reply with no place and no variant
-    if (r.anchor_refusal == 0) r.anchor_place = r.anchor_named = 0;
     return r;
 }
 

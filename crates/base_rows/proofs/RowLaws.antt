@@ -40,10 +40,20 @@ module _ (n : ℕ) (old row front : List ℕ) (i : ℕ) (w : Written n old row f
       is = rw (w.is, rest, set_at front _ _ v i w.made, append_assoc, add-one);
     }
 
--- each of its own values changed
+-- another row
 one_more : (from : List ℕ) (i : ℕ) → i < length from → take (i + 1) from ≡ take i from ++ (get_or from i 0 ∷ [])
 one_more from i h = rw add-one (take-suc from i 0 h)
 
+pub copy_turn : (n : ℕ) (old row from : List ℕ) (i : ℕ) → Written n old row (take i from) i → i < n → n ≤ length from
+    → Written n old (set row i (get_or from i 0)) (take (i + 1) from) (i + 1)
+copy_turn n old row from i w h g = rw (one_more from i (omega arith)) (stored n old row (take i from) i w h (get_or from i 0))
+
+pub copied : (n : ℕ) (old row from : List ℕ) (i : ℕ) → Written n old row (take i from) i → n ≤ i → row ≡ take n from ++ drop n old
+copied n old row from i w h = rw (whole n old row (take i from) i w h) at w.is
+
+pub ruleset copy_laws = (unwritten, copy_turn, copied)
+
+-- each of its own values changed
 module _ (f : ℕ → ℕ) (n : ℕ) (old row : List ℕ) (i : ℕ) (w : Written n old row (map f (take i old)) i) where
   pub map_turn : i < n → (v : ℕ) → v ≡ f (get_or row i 0) → Written n old (set row i v) (map f (take (i + 1) old)) (i + 1)
   map_turn h v e =

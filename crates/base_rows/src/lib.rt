@@ -26,7 +26,10 @@ pub fn copy(from: &[u8], n: usize, to: &mut [u8])
     requires { (n ≤ length from.now) × (n ≤ length to.old) }
     ensures { to.new ≡ take n from.now ++ drop n to.old }
 {
-    to[..n].copy_from_slice(&from[..n]);
+    // not by `copy_from_slice`, which needs a function of the C library
+    for i in 0..n {
+        to[i] = from[i];
+    }
 }
 
 // The bit that 0 and 2 differ in, for either of them, and none for another category.
@@ -57,5 +60,5 @@ pub fn exchange_row(row: &mut [u8], n: usize)
 pub fn larger(a: u8, b: u8) -> u8
     ensures { (a ≤ result) × (b ≤ result) }
 {
-    a.max(b)
+    if a < b { b } else { a }
 }

@@ -20,7 +20,7 @@ use Rattle.read_record.specs.Recorded.{record_left, record_replied, recorded, ph
 use Rattle.read_check.specs.Straight.{own_as, straight_replied, straight, straight_phased_replied, straight_phased}
 use Rattle.call_rows.specs.declared.Rows.{Rows}
 use Rattle.call_rows.specs.declared.RowStep.{RowStep}
-use Rattle.call_rows.specs.Calls.{next_record, found, past, answered, kept, row_kept, leaning_checked, RowReady}
+use Rattle.call_rows.specs.Calls.{next_record, found, past, answered, kept, row_kept, anchor_reply, leaning_checked, RowReady}
 use Rattle.call_rows.specs.Phased.{with_phases, phased_row_left, phases_filled, body_at, phases_at, phased_over_nothing, phased_over_anchor}
 use Rattle.call_rows.specs.Phased.{phased_stepped, next_phased_row_in, next_phased_row_call}
 use Rattle.call_rows.proofs.StepLaws.{alone_left, same_row, checked_as, checked, leaning_refused, leaning_accepted}
@@ -109,7 +109,7 @@ module _ (rows : Rows) (held : List ℕ) (p : Place) (output phases work : List 
   samples = rows.fields.samples
 
   abbrev accepted_anchor : Bool
-  accepted_anchor = is_ok rows.anchor
+  accepted_anchor = is_ok (anchor_reply rows.anchor)
 
   abbrev body : Out Body
   body = body_at rows held p work

@@ -20,8 +20,8 @@ use Rattle.format.proofs.Unique.{apart}
 use Rattle.head_places.specs.declared.Place.{Place}
 use Rattle.read_record.specs.Recorded.{record_replied, recorded, named_left}
 use Rattle.call_rows.specs.declared.Rows.{Rows}
-use Rattle.call_rows.specs.Calls.{state_checked, next_record, row_left, past, answered, alone, leaning, over_nothing, over_anchor, stepped}
-use Rattle.call_rows.specs.Calls.{next_row_in, next_row_call, RowReady}
+use Rattle.call_rows.specs.Calls.{state_checked, anchor_reply, next_record, row_left, past, answered, alone, leaning, over_nothing, over_anchor}
+use Rattle.call_rows.specs.Calls.{stepped, next_row_in, next_row_call, RowReady}
 use Rattle.call_rows.specs.Phased.{LeftPhased, with_phases, phases_filled, body_at, phased_over_nothing, phased_over_anchor, phased_stepped}
 use Rattle.call_rows.specs.Phased.{next_phased_row_in, next_phased_row_call}
 use Rattle.call_rows.proofs.StepLaws.{over_copy}
@@ -100,11 +100,11 @@ module _ (rows : Rows) (held output phases work : List ℕ) where
         go (refused why) r = (λ e. refl, λ e. apart (sym e))
 
     anchor_both : Both (phased_over_anchor rows held p output phases work)
-    anchor_both = rw (over_copy rows held p output work ready) (go rows.anchor (body_at rows held p work) refl)
+    anchor_both = rw (over_copy rows held p output work ready) (go (anchor_reply rows.anchor) (body_at rows held p work) refl)
       where
         go : (a : Result ⊤ Refusal) (m : Out Body) → body_at rows held p work ≡ m
             → Both (with_phases (pick (is_ok a) (leaning rows p.end output work (record_replied N copied (naming rows.variant m)))
-            (row_left (answered (past rows p.end a) a) output work))
+            (row_left (answered (past rows p.end rows.anchor) a) output work))
             (pick (is_ok a) (phases_filled N (take N work) phases m) phases))
         go (Ok tt) (ok body rest) r = (λ e. apart e, λ e. record { body = body; rest = rest; is_read = r; are_phases = refl })
         go (Ok tt) (refused why) r = (λ e. refl, λ e. apart (sym e))

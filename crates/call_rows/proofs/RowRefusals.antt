@@ -29,7 +29,7 @@ use Rattle.head_blocks.specs.Parts.{fixed}
 use Rattle.head_places.specs.declared.Place.{Place}
 use Rattle.read_record.specs.Recorded.{RecordLeft, record_left, record_replied, recorded, named_left}
 use Rattle.call_rows.specs.declared.Rows.{Rows}
-use Rattle.call_rows.specs.Calls.{start_rows_call, state_checked, record_of, anchor_told, type_follows, record_checked, next_record}
+use Rattle.call_rows.specs.Calls.{start_rows_call, state_checked, record_of, anchor_reply, record_reply, anchor_told, type_follows, record_checked, next_record}
 use Rattle.call_rows.specs.Calls.{Left, row_left, past, answered, alone, leaning, read_at, over_nothing, over_anchor, stepped, next_row_in, next_row_call}
 
 -- ---- the start
@@ -119,14 +119,14 @@ module _ (rows : Rows) (held output work : List ℕ) (y : Bytes held) where
         go (refused why) r = r
 
     -- its anchor was refused as a record is
-    anchored_keeps : (anchor : Result ⊤ Refusal) → anchor_told anchor ≡ true → (left : Left) → Keeps left
-        → Keeps (pick (is_ok anchor) left (row_left (answered (past rows p.end anchor) anchor) output work))
-    unfolding anchor_told
+    anchored_keeps : (reply : Result ⊤ Refusal) → record_reply reply ≡ true → (left : Left) → Keeps left
+        → Keeps (pick (is_ok reply) left (row_left (answered (past rows p.end rows.anchor) reply) output work))
     anchored_keeps (Ok tt) t left k = k
-    anchored_keeps (Err why) t left k = λ e. for_record why (past rows p.end (Err why)) work t
+    anchored_keeps (Err why) t left k = λ e. for_record why (past rows p.end rows.anchor) work t
 
     over_anchor_keeps : type_leans type ≡ true → Keeps (over_anchor rows held p output work)
-    over_anchor_keeps l = anchored_keeps rows.anchor (rw l at follows.1) _ (leaning_keeps p.end (read_at rows held p _) (read_numbers _))
+    unfolding anchor_told
+    over_anchor_keeps l = anchored_keeps (anchor_reply rows.anchor) (rw l at follows.1) _ (leaning_keeps p.end (read_at rows held p _) (read_numbers _))
 
     placed_keeps : Keeps (pick (type_leans type) (over_anchor rows held p output work) (over_nothing rows held p output work))
     placed_keeps = by_test Keeps (type_leans type) over_anchor_keeps (λ l. alone_keeps p.end (read_at rows held p work) (read_numbers work))

@@ -7,7 +7,7 @@ use mathlib.Core.Bool.{Bool, true, false, not, ◌&&◌, ◌||◌}
 use mathlib.Core.List.{List, []}
 use lib.Dec.{leb, ltb}
 use native.Mathlib.Omega.{arith}
-use borrow.Author.Tests.{leb-true, ltb-true, le-leb, lt-leb, le-ltb, lt-ltb, not-true, not-false}
+use borrow.Author.Tests.{leb-true, ltb-true, le-leb, lt-leb, le-ltb, lt-ltb, eq-eqb, ne_eqb, not-true, not-false}
 use Rattle.format.specs.declared.BlockVariant.{BlockVariant}
 use Rattle.format.specs.declared.Refusal.{Refusal}
 use Rattle.format.specs.Base.{Out, ok, refuse, refused, refuse_of}
@@ -18,11 +18,11 @@ use Rattle.format.specs.Variant.{in_block, no_variant}
 use Rattle.format.specs.Layout.{from_1_to, type_allowed}
 use Rattle.format.specs.Reply.{answer}
 use Rattle.format.proofs.Rules.{Holds, by_need, both, by_need_of, never_both}
-use Rattle.format.proofs.Refuses.{class_holds, every}
+use Rattle.format.proofs.Refuses.{RecordNumber, class_holds, every, not_none}
 use Rattle.format.proofs.OffsetsLaws.{from_1_to_most}
 use Rattle.head_blocks.proofs.Answers.{granted, denied}
 use Rattle.call_rows.specs.declared.Rows.{Rows}
-use Rattle.call_rows.specs.Calls.{state_checked, anchor_told, type_follows, Standing}
+use Rattle.call_rows.specs.Calls.{state_checked, anchor_reply, anchor_told, type_follows, Standing}
 
 -- a refusal that was made, as what is answered
 pub refused_as : {A : Type 0} (why said : Refusal) (m : Out A) → why ≡ said → refused said ≡ m → refused why ≡ m
@@ -96,6 +96,32 @@ module _ (rows : Rows) (output work : ℕ) where
   pub passed : (r : Result ⊤ Refusal) → answer r ≡ state_checked rows output work → r ≡ Ok tt → Passed rows output work
   passed r told q = subst (Holds (λ (u : Unit {0}) (left : List ℕ). Passed rows output work)) (sym (rw q at told)) all_passed
 
+-- ---- `anchor_reply`
+
+module _ (anchor : Result ⊤ Refusal) where
+  pub reply_accepted : anchor ≡ Ok tt → anchor ≡ anchor_reply anchor
+  unfolding anchor_reply
+  reply_accepted is = rw is refl
+
+  module _ (why : Refusal) (is : anchor ≡ Err why) where
+    pub reply_none : why.number ≡ 0 → Ok tt ≡ anchor_reply anchor
+    unfolding anchor_reply
+    reply_none z = rw (is, eq-eqb why.number 0 z) refl
+
+    pub reply_refused : (why.number ≡ 0 → ⊥) → Err why ≡ anchor_reply anchor
+    unfolding anchor_reply
+    reply_refused z = rw (is, ne_eqb why.number 0 z) refl
+
+pub ruleset reply_laws = (reply_accepted, reply_none, reply_refused)
+
+pub reply_of_ok : anchor_reply (Ok tt) ≡ Ok tt
+unfolding anchor_reply
+reply_of_ok = refl
+
+-- a record's refusal is told as it is
+pub reply_of_record : (why : Refusal) → RecordNumber why.number → anchor_reply (Err why) ≡ Err why
+reply_of_record why c = sym (reply_refused (Err why) why refl (λ z. not_none record_numbers refl (rw z at c)))
+
 -- ---- `anchor_told`
 
 -- a record's numbers are those from 12 to 18 and from 23 to 25
@@ -123,39 +149,67 @@ no_record test t number f = go (among record_numbers number) refl
     go true e = never_both (class_holds test record_numbers number t e) f
     go false e = refl
 
+-- what is said of an anchor, by the reply that stands for it
+module _ (anchor reply : Result ⊤ Refusal) (looked : reply ≡ anchor_reply anchor) where
+  pub looked_accepted : reply ≡ Ok tt → true ≡ anchor_told anchor
+  unfolding anchor_told
+  looked_accepted q = rw (← looked, q) refl
+
+  module _ (why : Refusal) (is : reply ≡ Err why) where
+    abbrev number : ℕ
+    number = why.number
+
+    looked_as : {b : Bool} → among record_numbers number ≡ b → b ≡ anchor_told anchor
+    unfolding anchor_told
+    looked_as e = rw (← looked, is, e) refl
+
+    pub looked_12_to_18 : 12 ≤ number → number < 19 → true ≡ anchor_told anchor
+    looked_12_to_18 l h =
+        let e : 12 + (number - 12) ≡ number = omega arith in
+        looked_as (ap (among record_numbers) (sym e) ∙ from_12 (number - 12) (omega arith))
+
+    pub looked_23_to_25 : 23 ≤ number → number < 26 → true ≡ anchor_told anchor
+    looked_23_to_25 l h =
+        let e : 23 + (number - 23) ≡ number = omega arith in
+        looked_as (ap (among record_numbers) (sym e) ∙ from_23 (number - 23) (omega arith))
+
+    pub looked_below : number < 12 → false ≡ anchor_told anchor
+    looked_below h = looked_as (no_record (leb 12) refl number (lt-leb 12 number h))
+
+    pub looked_between : 19 ≤ number → number < 23 → false ≡ anchor_told anchor
+    looked_between m h =
+        looked_as (no_record (λ (n : ℕ). leb n 18 || leb 23 n) refl number (rw (lt-leb number 18 (omega arith), lt-leb 23 number h) refl))
+
+    pub looked_above : 26 ≤ number → false ≡ anchor_told anchor
+    looked_above m = looked_as (no_record (λ (n : ℕ). leb n 25) refl number (lt-leb number 25 (omega arith)))
+
+pub ruleset told_laws = (looked_accepted, looked_12_to_18, looked_23_to_25, looked_below, looked_between, looked_above)
+
+-- the same by what the state itself keeps: it tells of an anchor if that is `Ok`, or a refusal with number 0, or with one that a record can have
 pub told_accepted : (anchor : Result ⊤ Refusal) → anchor ≡ Ok tt → true ≡ anchor_told anchor
-unfolding anchor_told
-told_accepted anchor e = rw e refl
+told_accepted anchor e = looked_accepted anchor anchor (reply_accepted anchor e) e
 
 module _ (anchor : Result ⊤ Refusal) (why : Refusal) (is : anchor ≡ Err why) where
-  abbrev number : ℕ
-  number = why.number
+  same : (why.number ≡ 0 → ⊥) → anchor ≡ anchor_reply anchor
+  same z = is ∙ reply_refused anchor why is z
 
-  told_as : {b : Bool} → among record_numbers number ≡ b → b ≡ anchor_told anchor
-  unfolding anchor_told
-  told_as e = rw (is, e) refl
+  pub told_none : why.number ≡ 0 → true ≡ anchor_told anchor
+  told_none z = looked_accepted anchor (Ok tt) (reply_none anchor why is z) refl
 
-  pub told_12_to_18 : 12 ≤ number → number < 19 → true ≡ anchor_told anchor
-  told_12_to_18 l h =
-      let e : 12 + (number - 12) ≡ number = omega arith in
-      told_as (ap (among record_numbers) (sym e) ∙ from_12 (number - 12) (omega arith))
+  pub told_12_to_18 : 12 ≤ why.number → why.number < 19 → true ≡ anchor_told anchor
+  told_12_to_18 l h = looked_12_to_18 anchor anchor (same (λ z. omega arith)) why is l h
 
-  pub told_23_to_25 : 23 ≤ number → number < 26 → true ≡ anchor_told anchor
-  told_23_to_25 l h =
-      let e : 23 + (number - 23) ≡ number = omega arith in
-      told_as (ap (among record_numbers) (sym e) ∙ from_23 (number - 23) (omega arith))
+  pub told_23_to_25 : 23 ≤ why.number → why.number < 26 → true ≡ anchor_told anchor
+  told_23_to_25 l h = looked_23_to_25 anchor anchor (same (λ z. omega arith)) why is l h
 
-  pub told_below : number < 12 → false ≡ anchor_told anchor
-  told_below h = told_as (no_record (leb 12) refl number (lt-leb 12 number h))
+  pub told_below : (why.number ≡ 0 → ⊥) → why.number < 12 → false ≡ anchor_told anchor
+  told_below z h = looked_below anchor anchor (same z) why is h
 
-  pub told_between : 19 ≤ number → number < 23 → false ≡ anchor_told anchor
-  told_between m h =
-      told_as (no_record (λ (n : ℕ). leb n 18 || leb 23 n) refl number (rw (lt-leb number 18 (omega arith), lt-leb 23 number h) refl))
+  pub told_between : 19 ≤ why.number → why.number < 23 → false ≡ anchor_told anchor
+  told_between m h = looked_between anchor anchor (same (λ z. omega arith)) why is m h
 
-  pub told_above : 26 ≤ number → false ≡ anchor_told anchor
-  told_above m = told_as (no_record (λ (n : ℕ). leb n 25) refl number (lt-leb number 25 (omega arith)))
-
-pub ruleset told_laws = (told_accepted, told_12_to_18, told_23_to_25, told_below, told_between, told_above)
+  pub told_above : 26 ≤ why.number → false ≡ anchor_told anchor
+  told_above m = looked_above anchor anchor (same (λ z. omega arith)) why is m
 
 -- ---- `type_follows`
 

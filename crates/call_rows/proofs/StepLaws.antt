@@ -26,7 +26,8 @@ use Rattle.read_check.specs.Straight.{own_as, straight_replied, straight}
 use Rattle.call_rows.specs.declared.Rows.{Rows}
 use Rattle.call_rows.specs.declared.RowStep.{RowStep}
 use Rattle.call_rows.specs.Calls.{Kept, kept, row_kept}
-use Rattle.call_rows.specs.Calls.{Left, row_left, past, answered, alone, leaning, read_at, leaning_checked, over_nothing, over_anchor, RowReady}
+use Rattle.call_rows.specs.Calls.{Left, row_left, past, answered, alone, leaning, read_at, anchor_reply, leaning_checked}
+use Rattle.call_rows.specs.Calls.{over_nothing, over_anchor, RowReady}
 
 -- ---- past a record that leans on none
 
@@ -97,16 +98,16 @@ module _ (rows : Rows) (held : List ℕ) (p : Place) (output work : List ℕ) (s
 
 -- ---- one that leans: checked over the work area
 
-module _ (rows : Rows) (held : List ℕ) (p : Place) (work : List ℕ) where
-  pub checked_anchor : (why : Refusal) → rows.anchor ≡ Err why → Err why ≡ leaning_checked rows held p work
+module _ (rows : Rows) (held : List ℕ) (p : Place) (work : List ℕ) (reply : Result ⊤ Refusal) (looked : reply ≡ anchor_reply rows.anchor) where
+  pub checked_anchor : (why : Refusal) → reply ≡ Err why → Err why ≡ leaning_checked rows held p work
   unfolding leaning_checked
-  checked_anchor why q = rw q
+  checked_anchor why q = rw (← looked, q) refl
 
-  pub checked_body : rows.anchor ≡ Ok tt → (read got : Result ⊤ Refusal)
+  pub checked_body : reply ≡ Ok tt → (read got : Result ⊤ Refusal)
       → read ≡ body_checked rows.fields.samples p.record_type (take p.end held) p.start work → got ≡ named_reply rows.variant read
       → got ≡ leaning_checked rows held p work
   unfolding leaning_checked
-  checked_body z read got e v = rw z (v ∙ ap (named_reply rows.variant) e)
+  checked_body z read got e v = rw (← looked, z) (v ∙ ap (named_reply rows.variant) e)
 
 -- a type that leans is not of a record that is phased and leans on none
 pub leans_there : (type : ℕ) → type_leans type ≡ true → type_phased type ≡ true → type_leans type ≡ true
@@ -143,28 +144,31 @@ module _ (rows : Rows) (held : List ℕ) (p : Place) (output work : List ℕ) (r
       same_row
       ∙ left_named rows.variant N copied (read_body (length cut) N (take N work) p.record_type (drop p.start cut))
 
+  abbrev accepted_anchor : Bool
+  accepted_anchor = is_ok (anchor_reply rows.anchor)
+
   -- what the check says, by how the anchor was read and how the record is
   abbrev pub checked_as : Bool → Out Body → Result ⊤ Refusal
-  checked_as b m = pick b (replied m) rows.anchor
+  checked_as b m = pick b (replied m) (anchor_reply rows.anchor)
 
   abbrev left_as : Bool → Out Body → Left
   left_as b m =
       pick b (leaning rows p.end output work (record_replied N copied m))
-      (row_left (answered (past rows p.end rows.anchor) rows.anchor) output work)
+      (row_left (answered (past rows p.end rows.anchor) (anchor_reply rows.anchor)) output work)
 
-  over : over_anchor rows held p output work ≡ left_as (is_ok rows.anchor) read
+  over : over_anchor rows held p output work ≡ left_as accepted_anchor read
   over = rw over_copy
 
   module _ (next : Rows) (n : next ≡ past rows p.end rows.anchor) (got : Result ⊤ Refusal) (told : got ≡ leaning_checked rows held p work) where
-    pub checked : got ≡ checked_as (is_ok rows.anchor) read
+    pub checked : got ≡ checked_as accepted_anchor read
     unfolding leaning_checked body_checked
     checked =
         told
-        ∙ ap (λ (reply : Result ⊤ Refusal). pick (is_ok rows.anchor) reply rows.anchor)
+        ∙ ap (λ (reply : Result ⊤ Refusal). pick accepted_anchor reply (anchor_reply rows.anchor))
         (replied_named rows.variant (read_body (length cut) N (take N work) p.record_type (drop p.start cut)))
 
     pub leaning_refused : (why : Refusal) → got ≡ Err why → row_left (answered next (Err why)) output work ≡ over_anchor rows held p output work
-    leaning_refused why q = go (is_ok rows.anchor) read checked ∙ sym over
+    leaning_refused why q = go accepted_anchor read checked ∙ sym over
       where
         go : (b : Bool) (m : Out Body) → got ≡ checked_as b m → row_left (answered next (Err why)) output work ≡ left_as b m
         go true (ok body left) e = absurd (let y : ◌≡◌ {A = ℕ} 0 1 = cc in omega arith)
@@ -174,9 +178,9 @@ module _ (rows : Rows) (held : List ℕ) (p : Place) (output work : List ℕ) (r
     pub leaning_accepted : (output₁ output₂ : List ℕ) (got₂ : Result ⊤ Refusal) → got ≡ Ok tt → output₁ ≡ take N work ++ drop N output
         → record_left got₂ output₂ ≡ recorded N p.record_type cut p.start output₁
         → row_left (answered next got₂) output₂ work ≡ over_anchor rows held p output work
-    leaning_accepted output₁ output₂ got₂ q f d = go (is_ok rows.anchor) refl read checked refl ∙ sym over
+    leaning_accepted output₁ output₂ got₂ q f d = go accepted_anchor refl read checked refl ∙ sym over
       where
-        go : (b : Bool) → is_ok rows.anchor ≡ b → (m : Out Body) → got ≡ checked_as b m → read ≡ m → row_left (answered next got₂) output₂ work ≡ left_as b m
+        go : (b : Bool) → accepted_anchor ≡ b → (m : Out Body) → got ≡ checked_as b m → read ≡ m → row_left (answered next got₂) output₂ work ≡ left_as b m
         go false t m e r = never_both (ap is_ok (sym e ∙ q)) t
         go true t (refused other) e r = absurd (let y : ◌≡◌ {A = ℕ} 0 1 = cc in omega arith)
         go true t (ok body left) e r =

@@ -1,7 +1,8 @@
 -- The two calls of a way through a file: for any state and any slices the reply, the state moved on, and both lent buffers afterwards. A step is defined over
 -- an index and the data that it speaks of, `held`, as code below the public calls is: a file in one piece is both.
 -- Assumes nothing.
-use Rattle.std.specs.Prelude.{◌≡◌, ℕ, ◌+◌, ◌≤◌, ◌<◌, Bool, true, not, ◌&&◌, ◌||◌, List, [], ◌++◌, length, take, drop, leb, ltb, Result, Ok, Err, is_ok, ⊤}
+use Rattle.std.specs.Prelude.{◌≡◌, ℕ, ◌+◌, ◌≤◌, ◌<◌, Bool, true, not, ◌&&◌, ◌||◌, List, [], ◌++◌, length, take, drop, eqb, leb, ltb}
+use Rattle.std.specs.Prelude.{Result, Ok, Err, is_ok, ⊤}
 use Rattle.format.specs.declared.Fields.{Fields}
 use Rattle.format.specs.declared.Refusal.{Refusal}
 use Rattle.format.specs.Base.{pick, Out, ok, refused, bind, need, need_of}
@@ -54,10 +55,20 @@ record_of rows index = record {
   record_type = record_type variants_to_a_block (fixed rows.fields) index rows.variant;
 }
 
+-- How an anchor was read, by what a state keeps of it. 01, Replies: "An accepted call has refusal 0", so number 0 tells that it was accepted, whatever place
+-- and variant stand beside it.
+unfoldable pub anchor_reply : Result ⊤ Refusal → Result ⊤ Refusal
+anchor_reply (Ok done) = Ok tt
+anchor_reply (Err why) = pick (eqb why.number 0) (Ok tt) (Err why)
+
+-- a reply that the reading of a record can give
+abbrev pub record_reply : Result ⊤ Refusal → Bool
+record_reply (Ok done) = true
+record_reply (Err why) = among record_numbers why.number
+
 -- the state tells how its anchor was read: accepted, or refused as a record is
 unfoldable pub anchor_told : Result ⊤ Refusal → Bool
-anchor_told (Ok done) = true
-anchor_told (Err why) = among record_numbers why.number
+anchor_told anchor = record_reply (anchor_reply anchor)
 
 -- 01, The header: "its kind is not 2 or 3 at the first variant of a block", where there is no anchor; nor where the state tells of none
 unfoldable pub type_follows : Rows → ℕ → Bool
@@ -113,7 +124,7 @@ row_kept rows end (Ok tt) output work =
     kept (answered (past rows end (Ok tt)) (Ok tt)) (take rows.fields.samples output ++ drop rows.fields.samples work)
 row_kept rows end (Err why) output work = kept (answered (past rows end (Err why)) (Err why)) (emptied rows.fields.samples work)
 
--- one that leans, as the output would be left by reading it there over the anchor's row
+-- one that leans, as the output would be left by reading it there over the anchor's row; the state keeps what it tells of the anchor, place and variant too
 abbrev pub leaning : Rows → ℕ → List ℕ → List ℕ → RecordLeft → Left
 leaning rows end output work (record_left (Ok tt) row) = row_left (answered (past rows end rows.anchor) (Ok tt)) row work
 leaning rows end output work (record_left (Err why) row) = row_left (answered (past rows end rows.anchor) (Err why)) output work
@@ -125,7 +136,9 @@ read_at rows held p row = named_left rows.variant (recorded rows.fields.samples 
 -- 01, Replies: "an anchor is checked before the record that leans on it": refused as its anchor was, or checked over the anchor's row
 unfoldable pub leaning_checked : Rows → List ℕ → Place → List ℕ → Result ⊤ Refusal
 leaning_checked rows held p work =
-    pick (is_ok rows.anchor) (named_reply rows.variant (body_checked rows.fields.samples p.record_type (take p.end held) p.start work)) rows.anchor
+    pick (is_ok (anchor_reply rows.anchor))
+    (named_reply rows.variant (body_checked rows.fields.samples p.record_type (take p.end held) p.start work))
+    (anchor_reply rows.anchor)
 
 -- a record that leans on none, as if it were read in the work area
 abbrev pub over_nothing : Rows → List ℕ → Place → List ℕ → List ℕ → Left
@@ -134,9 +147,9 @@ over_nothing rows held p output work = alone rows p.end output (read_at rows hel
 -- 01, Replies: "an anchor is checked before the record that leans on it": refused as its anchor was, or read over the anchor's row, which the work area holds
 abbrev pub over_anchor : Rows → List ℕ → Place → List ℕ → List ℕ → Left
 over_anchor rows held p output work =
-    pick (is_ok rows.anchor)
+    pick (is_ok (anchor_reply rows.anchor))
     (leaning rows p.end output work (read_at rows held p (take rows.fields.samples work ++ drop rows.fields.samples output)))
-    (row_left (answered (past rows p.end rows.anchor) rows.anchor) output work)
+    (row_left (answered (past rows p.end rows.anchor) (anchor_reply rows.anchor)) output work)
 
 abbrev pub stepped : Rows → List ℕ → List ℕ → List ℕ → Out Place → Left
 stepped rows held output work (refused why) = row_left (answered rows (Err why)) output work

@@ -6,7 +6,7 @@ use Rattle.format.specs.Body.{type_leans, Body, read_body, body_phases}
 use Rattle.head_places.specs.declared.Place.{Place}
 use Rattle.call_rows.specs.declared.Rows.{Rows}
 use Rattle.call_rows.specs.declared.RowStep.{RowStep}
-use Rattle.call_rows.specs.Calls.{next_record, Left, row_left, over_nothing, over_anchor, stepped}
+use Rattle.call_rows.specs.Calls.{anchor_reply, next_record, Left, row_left, over_nothing, over_anchor, stepped}
 
 -- the answer, the state, the output and the work area as the call for the categories leaves them; and the phases
 pub record LeftPhased : Type 0 where
@@ -39,7 +39,7 @@ phased_over_nothing rows held p output phases work = with_phases (over_nothing r
 -- 01, Replies: "an anchor is checked before the record that leans on it": where it was refused the phases stay
 abbrev pub phased_over_anchor : Rows → List ℕ → Place → List ℕ → List ℕ → List ℕ → LeftPhased
 phased_over_anchor rows held p output phases work =
-    with_phases (over_anchor rows held p output work) (pick (is_ok rows.anchor) (phases_at rows held p phases work) phases)
+    with_phases (over_anchor rows held p output work) (pick (is_ok (anchor_reply rows.anchor)) (phases_at rows held p phases work) phases)
 
 abbrev pub phased_stepped : Rows → List ℕ → List ℕ → List ℕ → List ℕ → Out Place → LeftPhased
 phased_stepped rows held output phases work (refused why) = with_phases (stepped rows held output work (refused why)) phases

@@ -7,7 +7,7 @@ ghost use Rattle.format.specs.Limits.{most_variants};
 ghost use Rattle.format.specs.Body.{type_leans};
 ghost use Rattle.format.specs.Reply.{answer};
 ghost use Rattle.call_rows.specs.Calls.{first_row, start_rows_call, past, kept, row_kept, RowReady, over_nothing};
-ghost use Rattle.call_rows.specs.Calls.{leaning_checked, over_anchor, row_left, next_row_in, next_row_call};
+ghost use Rattle.call_rows.specs.Calls.{anchor_reply, leaning_checked, over_anchor, row_left, next_row_in, next_row_call};
 
 use base_cursor::Cursor;
 use base_rows::{clear, copy};
@@ -25,7 +25,8 @@ pub mod phased;
 use crate::next::next_record;
 pub use phased::next_phased_row;
 
-// The next variant, where its record starts, and the reply of the last record that leans on none, whose refusal names it.
+// The next variant, where its record starts, and the reply of the last record that leans on none, whose refusal names it; one with number 0, which no start
+// gives, tells that it was accepted.
 #[derive(Clone, Copy)]
 pub struct Rows {
     pub fields: Fields,
@@ -130,12 +131,22 @@ fn step_alone(rows: Rows, held: &[u8], p: Place, output: &mut [u8], work: &mut [
     )
 }
 
+// How an anchor was read, by what a state keeps of it. 01, Replies: "An accepted call has refusal 0", so an `Err` with number 0 tells that it was accepted.
+fn anchor_reply(anchor: Result<(), Refusal>) -> Result<(), Refusal>
+    ensures { result ≡ anchor_reply anchor }
+{
+    match anchor {
+        Err(why) if why.number == 0 => Ok(()),
+        told => told,
+    }
+}
+
 // One that leans is refused as its anchor was, or checked over the anchor's row, which the work area holds.
 fn leaning_checked(rows: Rows, held: &[u8], p: Place, work: &[u8]) -> Result<(), Refusal>
     requires { RowReady rows held.now p work.now × (type_leans p.record_type ≡ true) }
     ensures { result ≡ leaning_checked rows held.now p work.now }
 {
-    rows.anchor?;
+    anchor_reply(rows.anchor)?;
     let end = p.end;
     let n = rows.fields.samples;
     let got = check_body(&held[..end], Cursor { at: p.start }, n, p.record_type, work);

@@ -7,7 +7,7 @@ ghost use Rattle.format.specs.Reply.{answer};
 ghost use Rattle.head_blocks.specs.Parts.{fixed};
 ghost use Rattle.call_rows.specs.Calls.{state_checked, Standing, anchor_told, type_follows, record_checked, next_record, found};
 
-use crate::Rows;
+use crate::{Rows, anchor_reply};
 use base_variants::in_block;
 use call_open::call_refusal;
 use format::{Fields, FileVariant, MOST_SAMPLES, MOST_VARIANTS, Refusal, refusal_at, refusal_of};
@@ -45,7 +45,7 @@ fn state_checked(rows: Rows, output: usize, work: usize) -> Result<(), Refusal>
 fn anchor_told(anchor: Result<(), Refusal>) -> bool
     ensures { result ≡ anchor_told anchor }
 {
-    match anchor {
+    match anchor_reply(anchor) {
         Ok(()) => true,
         Err(why) => matches!(why.number, 12..=18 | 23..=25),
     }

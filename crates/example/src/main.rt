@@ -2,11 +2,13 @@
 #![tactic(auto)]
 
 use format::FileVariant;
-use std::alloc::Global;
 use std::io;
-use std::io::{BufWriter, Read, Write};
+use std::io::{Read, Write};
+use text::{Held, Input, Output};
 
 const MOST_INPUT: usize = 4096;
+
+const MOST_HELD: usize = 64;
 
 // The category of a sample as a digit, or r for a refusal.
 fn put_category<W: Write>(
@@ -32,19 +34,17 @@ fn before_and_after<W: Write>(out: &mut W, file: &mut [u8], work: &mut [u8]) -> 
     out.write_all(b"\n")
 }
 
-fn main(rt: HostRuntime) -> io::Result<()> {
-    run(rt.alloc(), rt.stdin(), rt.stdout())
+fn main() {
+    run(&mut Input, &mut Held::<Output, MOST_HELD>::new(Output));
 }
 
 // Input that can't be read ends there, and what can't be written is lost.
-fn run<R: Read + Drop, W: Write + Drop>(alloc: Global, input: R, out: W) -> io::Result<()> {
-    let mut file = Vec::with_capacity(alloc, MOST_INPUT)?;
+fn run<R: Read, W: Write>(input: &mut R, out: &mut W) {
+    let mut file = [0u8; MOST_INPUT];
     let mut work = [0u8; 512];
-    let mut held = BufWriter::new(alloc, out)?;
-    let _ = input.take(MOST_INPUT as u64).read_to_end(&mut file);
-    let _ = before_and_after(&mut held, &mut file, &mut work);
-    let _ = held.flush();
-    Ok(())
+    let count = input.read(&mut file).unwrap_or(0);
+    let _ = before_and_after(out, &mut file[..count], &mut work);
+    let _ = out.flush();
 }
 
 #[cfg(test)]
@@ -57,10 +57,9 @@ mod tests {
     fn flips_one_variant(rt: HostRuntime) -> Result<(), Fail> {
         let file =
             b"\x6c\x1b\x10\x03\x00\x00\x00\x05\x00\x00\x00\x40\x19\x00\x00\x00\x00\x00\x00\x00\x20\x04\x02\x04\x03\xe4\x00\x02\x01\x06\x03\x01\x02\x03";
-        let alloc = rt.alloc();
-        let mut out = Vec::new(alloc);
-        run(alloc, &file[..], &mut out)?;
-        run(alloc, io::empty(), &mut out)?;
+        let mut out = Vec::new(rt.alloc());
+        run(&mut &file[..], &mut out);
+        run(&mut io::empty(), &mut out);
         assert_eq!(rt; out.as_slice(), "02\nrr\n".as_bytes());
         Ok(())
     }

@@ -53,6 +53,19 @@ fits_short i h = pow-le-pow_right {n = 256} (lit< tt) {i = i + 1} {j = 4} (omega
 fits_wide : (i : ℕ) → i < 8 → 256 ^ (i + 1) ≤ 18446744073709551616
 fits_wide i h = pow-le-pow_right {n = 256} (lit< tt) {i = i + 1} {j = 8} (omega arith)
 
+-- whichever byte comes above those that were read, there is room for it
+module _ {bs : List ℕ} {at i number : ℕ} (g : Reading bs at i number) (y : (i : ℕ) → Fits w8 (get_or bs i 0)) (k : ℕ) {b : ℕ} (e : b ≡ get_or bs k 0) where
+  byte_above : (m : ℕ) → 256 ^ (i + 1) ≤ m → number + b * 2 ^ (8 * i) % m < 256 ^ (i + 1)
+  byte_above m h =
+      let f : Fits w8 b = rw e (y k) in
+      rw (shifted i b m h f.fits, one_more i) (digit_above g.small f.fits)
+
+  pub more_fits : i < 4 → Fits w32 (number + b * 2 ^ (8 * i) % 4294967296)
+  more_fits h = omega (arith, byte_above 4294967296 (fits_short i h), fits_short i h)
+
+  pub more_fits_wide : i < 8 → Fits w64 (number + b * 2 ^ (8 * i) % 18446744073709551616)
+  more_fits_wide h = omega (arith, byte_above 18446744073709551616 (fits_wide i h), fits_wide i h)
+
 module _ {bs : List ℕ} {at i number : ℕ} (g : Reading bs at i number) (y : (i : ℕ) → Fits w8 (get_or bs i 0)) {b : ℕ} (e : b ≡ get_or bs (at + i) 0) where
   -- one byte more, the next
   higher : (m : ℕ) → 256 ^ (i + 1) ≤ m → Reading bs at (i + 1) (number + b * 2 ^ (8 * i) % m)
@@ -60,20 +73,14 @@ module _ {bs : List ℕ} {at i number : ℕ} (g : Reading bs at i number) (y : (
       let f : Fits w8 b = rw e (y (at + i)) in
       record {
         same = rw (shifted i b m h f.fits) (high_byte i at bs g.same e);
-        small = rw (shifted i b m h f.fits, one_more i) (digit_above g.small f.fits);
+        small = byte_above g y (at + i) e m h;
       }
 
   pub goes_on : i < 4 → Reading bs at (i + 1) (number + b * 2 ^ (8 * i) % 4294967296)
   goes_on h = higher 4294967296 (fits_short i h)
 
-  pub more_fits : i < 4 → Fits w32 (number + b * 2 ^ (8 * i) % 4294967296)
-  more_fits h = omega (arith, (goes_on h).small, fits_short i h)
-
   pub goes_on_wide : i < 8 → Reading bs at (i + 1) (number + b * 2 ^ (8 * i) % 18446744073709551616)
   goes_on_wide h = higher 18446744073709551616 (fits_wide i h)
-
-  pub more_fits_wide : i < 8 → Fits w64 (number + b * 2 ^ (8 * i) % 18446744073709551616)
-  more_fits_wide h = omega (arith, (goes_on_wide h).small, fits_wide i h)
 
 -- all of them
 module _ {bs : List ℕ} {at i number w : ℕ} (g : Reading bs at i number) (l : i ≤ w) (h : w ≤ i) where

@@ -10,9 +10,9 @@ use call_rows::{Rows, first_row};
 use format::{Fields, FileVariant, MOST_SAMPLES};
 use head_records::type_of;
 use pgen::next_row;
-use std::alloc::Global;
 use std::io;
-use std::io::{BufWriter, Read, Write};
+use std::io::{Read, Write};
+use text::{Held, Input, Output};
 
 // 01: "The listing program reads at most 65,536 bytes from standard input."
 const MOST_INPUT: usize = 65536;
@@ -97,17 +97,15 @@ fn put_listing<W: Write>(out: &mut W, input: &[u8]) -> io::Result<()> {
 }
 
 // One byte more than may be shows that there are more. Input that can't be read ends there, and what can't be written is lost.
-fn run<R: Read + Drop, W: Write + Drop>(alloc: Global, input: R, out: W) -> io::Result<()> {
-    let mut file = Vec::with_capacity(alloc, MOST_INPUT + 1)?;
-    let mut held = BufWriter::with_capacity(alloc, MOST_HELD, out)?;
-    let _ = input.take(MOST_INPUT as u64 + 1).read_to_end(&mut file);
-    let _ = put_listing(&mut held, &file);
-    let _ = held.flush();
-    Ok(())
+fn run<R: Read, W: Write>(input: &mut R, out: &mut W) {
+    let mut file = [0u8; MOST_INPUT + 1];
+    let count = input.read(&mut file).unwrap_or(0);
+    let _ = put_listing(out, &file[..count]);
+    let _ = out.flush();
 }
 
-fn main(rt: HostRuntime) -> io::Result<()> {
-    run(rt.alloc(), rt.stdin(), rt.stdout())
+fn main() {
+    run(&mut Input, &mut Held::<Output, MOST_HELD>::new(Output));
 }
 
 #[cfg(test)]
@@ -120,10 +118,9 @@ mod tests {
     fn lists(rt: HostRuntime) -> Result<(), Fail> {
         let file =
             b"\x6c\x1b\x10\x03\x00\x00\x00\x05\x00\x00\x00\x40\x19\x00\x00\x00\x00\x00\x00\x00\x20\x04\x02\x04\x03\xe4\x00\x02\x01\x06\x03\x01\x02\x03";
-        let alloc = rt.alloc();
-        let mut out = Vec::new(alloc);
-        run(alloc, &file[..], &mut out)?;
-        run(alloc, &file[..33], &mut out)?;
+        let mut out = Vec::new(rt.alloc());
+        run(&mut &file[..], &mut out);
+        run(&mut &file[..33], &mut out);
         let want = "3 5\n0 0 01230\n1 2 02231\n2 4 00300\nrefused 9 33\n";
         assert_eq!(rt; out.as_slice(), want.as_bytes());
         Ok(())
@@ -132,10 +129,9 @@ mod tests {
     // The longest input that is looked at, and one byte more.
     #[test]
     fn looks_no_further(rt: HostRuntime) -> Result<(), Fail> {
-        let alloc = rt.alloc();
-        let mut out = Vec::new(alloc);
-        run(alloc, io::repeat(0).take(MOST_INPUT as u64), &mut out)?;
-        run(alloc, io::repeat(0), &mut out)?;
+        let mut out = Vec::new(rt.alloc());
+        run(&mut io::repeat(0).take(MOST_INPUT as u64), &mut out);
+        run(&mut io::repeat(0), &mut out);
         assert_eq!(rt; out.as_slice(), "refused 2 0\ntoo large\n".as_bytes());
         Ok(())
     }

@@ -6,7 +6,7 @@ pub const HEAD: usize = 33;
 // The first string has up to 524,288 bytes; the second, the output and the work area up to 131,072 each.
 pub const MOST_FIRST: usize = 524288;
 
-const MOST_LENT: usize = 131072;
+pub const MOST_LENT: usize = 131072;
 
 // The call that has a third string, the phases; and a way through a file, of so many steps at most.
 pub const PHASED: u8 = 9;

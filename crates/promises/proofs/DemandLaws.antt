@@ -28,7 +28,8 @@ use Rattle.format.proofs.FlipLaws.{SameLayout, flip_layout, flip_obeys, pgen_law
 use Rattle.head_places.specs.declared.Place.{Place}
 use Rattle.read_record.specs.Recorded.{RecordLeft, record_left}
 use Rattle.call_rows.specs.declared.Rows.{Rows}
-use Rattle.call_rows.specs.Calls.{next_record, Left, row_left, past, answered, alone, leaning, read_at, stepped, next_row_in, next_row_call}
+use Rattle.call_rows.specs.Calls.{anchor_reply, next_record, Left, row_left, past, answered, alone, leaning, read_at, stepped, next_row_in}
+use Rattle.call_rows.specs.Calls.{next_row_call}
 use Rattle.call_rows.specs.Phased.{LeftPhased, phased_stepped, next_phased_row_in, next_phased_row_call}
 use Rattle.call_rows.proofs.RowRefusals.{next_row_numbers, StepNames, next_row_refusals, next_row_names, refused_next_row, refused_next_row_stays}
 use Rattle.call_rows.proofs.PhasedRows.{refused_phases, next_phased_row_refusals, next_phased_row_names, refused_next_phased_row}
@@ -107,16 +108,16 @@ module _ (rows : Rows) (file output work : List ℕ) where
   leaning_plain end (record_left (Ok tt) row) = λ e. refl
   leaning_plain end (record_left (Err why) row) = λ e. never_both e refl
 
-  anchored_plain : (anchor : Result ⊤ Refusal) (end : ℕ) (left : Left) → Plain left
-      → Plain (pick (is_ok anchor) left (row_left (answered (past rows end anchor) anchor) output work))
-  anchored_plain (Ok tt) end left k = k
-  anchored_plain (Err why) end left k = λ e. never_both e refl
+  anchored_plain : (reply : Result ⊤ Refusal) (later : Rows) (left : Left) → Plain left
+      → Plain (pick (is_ok reply) left (row_left (answered later reply) output work))
+  anchored_plain (Ok tt) later left k = k
+  anchored_plain (Err why) later left k = λ e. never_both e refl
 
   stepped_plain : (m : Out Place) → Plain (stepped rows file output work m)
   stepped_plain (refused why) = λ e. never_both e refl
   stepped_plain (ok p left) =
       by_test Plain (type_leans p.record_type)
-      (λ t. anchored_plain rows.anchor p.end _ (leaning_plain p.end (read_at rows file p _)))
+      (λ t. anchored_plain (anchor_reply rows.anchor) (past rows p.end rows.anchor) _ (leaning_plain p.end (read_at rows file p _)))
       (λ t. alone_plain p.end (read_at rows file p work))
 
   step_plain : Plain (next_row_call rows file output work)
@@ -148,7 +149,7 @@ module _ (rows : Rows) (file output work : List ℕ) where
     both_stepped_plain (refused why) = λ e. never_both e refl
     both_stepped_plain (ok p left) =
         by_test (λ (x : LeftPhased). Plain x.row) (type_leans p.record_type)
-        (λ t. anchored_plain rows.anchor p.end _ (leaning_plain p.end (read_at rows file p _)))
+        (λ t. anchored_plain (anchor_reply rows.anchor) (past rows p.end rows.anchor) _ (leaning_plain p.end (read_at rows file p _)))
         (λ t. alone_plain p.end (read_at rows file p work))
 
     both_plain : Plain both.row

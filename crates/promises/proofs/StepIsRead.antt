@@ -36,8 +36,9 @@ use Rattle.read_file.specs.Rows.{row_replied}
 use Rattle.read_file.proofs.Cut.{body_is_bytes, recorded_is}
 use Rattle.read_file.proofs.LentLaws.{read_too}
 use Rattle.call_rows.specs.declared.Rows.{Rows}
-use Rattle.call_rows.specs.Calls.{anchor_told, type_follows, next_record, Left, alone, leaning, read_at, over_nothing, over_anchor, stepped, next_row_in}
-use Rattle.call_rows.proofs.StateLaws.{state_fine}
+use Rattle.call_rows.specs.Calls.{anchor_reply, anchor_told, type_follows, next_record, Left, alone, leaning, read_at, over_nothing, over_anchor}
+use Rattle.call_rows.specs.Calls.{stepped, next_row_in}
+use Rattle.call_rows.proofs.StateLaws.{reply_of_ok, reply_of_record, state_fine}
 use Rattle.call_rows.proofs.RecordLaws.{record_there, next_is}
 use Rattle.read_record.specs.Recorded.{named_left}
 
@@ -50,8 +51,8 @@ state l v reply = record { fields = fields_of (fixed_of l); variant = file_varia
 
 -- how an anchor reads is what the state and the work area tell
 pub data Told (N : ℕ) (reply : Result ⊤ Refusal) (work : List ℕ) (m : Out (List ℕ)) : Type 0 where
-  was_accepted : (left : List ℕ) → reply ≡ Ok tt → m ≡ ok (take N work) left → Told N reply work m
-  was_refused : (why : Refusal) → reply ≡ Err why → RecordNumber why.number → m ≡ refused why → Told N reply work m
+  was_accepted : (left : List ℕ) → anchor_reply reply ≡ Ok tt → m ≡ ok (take N work) left → Told N reply work m
+  was_refused : (why : Refusal) → anchor_reply reply ≡ Err why → RecordNumber why.number → m ≡ refused why → Told N reply work m
 
 -- so the state tells of an anchor
 pub told_known : {N : ℕ} {reply : Result ⊤ Refusal} {work : List ℕ} {m : Out (List ℕ)} → Told N reply work m → anchor_told reply ≡ true
@@ -202,7 +203,7 @@ module _ (index held : List ℕ) (y : Bytes held) (l : Layout) (a : Stored K ind
                 reached = omega arith;
                 holds = kept.0 ∙ h;
                 rest_is = kept.1 ∙ rest;
-                told = λ m u. was_accepted left refl (lent m u ∙ e ∙ ap (λ (z : List ℕ). ok z left) (sym front));
+                told = λ m u. was_accepted left reply_of_ok (lent m u ∙ e ∙ ap (λ (z : List ℕ). ok z left) (sym front));
               };
             }
         alone_step (refused other) e k =
@@ -216,7 +217,7 @@ module _ (index held : List ℕ) (y : Bytes held) (l : Layout) (a : Stored K ind
                 reached = omega arith;
                 holds = kept.0 ∙ h;
                 rest_is = kept.1 ∙ rest;
-                told = λ m u. was_refused other refl k (lent m u ∙ e);
+                told = λ m u. was_refused other (reply_of_record other k) k (lent m u ∙ e);
               };
             }
 

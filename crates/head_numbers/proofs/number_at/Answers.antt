@@ -9,7 +9,7 @@ pub loop-i-init : goal.loop-i-init
 loop-i-init c = search (reading_laws, rules)
 
 pub overflow_add-number : goal.overflow_add-number
-overflow_add-number c = more_fits_wide c.loop-i.invariant c.type_inv.file c.from.ensures (omega arith)
+overflow_add-number c = more_fits_wide c.loop-i.invariant c.type_inv.file _ c.from.ensures (omega arith)
 
 pub loop-i-preserved : goal.loop-i-preserved
 loop-i-preserved c = goes_on_wide c.loop-i.invariant c.type_inv.file c.from.ensures (omega arith)
