@@ -45,7 +45,10 @@ fn put_row<W: Write>(
     for category in row.iter_mut() {
         *category = b'0' + *category % 4;
     }
-    write!(out, "{} {record_type} ", v.0)?;
+    out.write_all(itoa::Buffer::new().format(v.0).as_bytes())?;
+    out.write_all(b" ")?;
+    out.write_all(itoa::Buffer::new().format(record_type).as_bytes())?;
+    out.write_all(b" ")?;
     out.write_all(row)?;
     out.write_all(b"\n")
 }

@@ -2,7 +2,7 @@
 // what is written, so that it leaves in large writes. Nothing here takes memory. What is written is tested, not proved.
 #![tactic(auto)]
 
-ghost use Rattle.std.specs.Prelude.{◌≡◌};
+ghost use Rattle.std.specs.Prelude.{◌≡◌, ◌≤◌, length};
 
 use io::{read_full, write_all};
 use std::io::{Error, ErrorKind, Read, Result, Write};
@@ -66,6 +66,29 @@ impl<W: Write + Drop, const N: usize> Held<W, N> {
         let _ = self.out.write_all(&held[..n]);
         self.filled = 0;
     }
+
+    // As much of the bytes as there is room for: how much.
+    fn hold(&mut self, buf: &[u8]) -> usize
+        ensures { result ≤ length buf.now }
+    {
+        let from = self.filled.min(N);
+        let n = buf.len().min(N - from);
+        let space = &mut self.buffer[..];
+        space[from..from + n].copy_from_slice(&buf[..n]);
+        self.filled = from + n;
+        n
+    }
+
+    // Bytes that don't fit. It stands apart, so that the test for room is inlined.
+    #[cold]
+    #[inline(never)]
+    fn hold_long(&mut self, buf: &[u8]) {
+        let taken = self.hold(buf);
+        for part in buf[taken..].chunks(N.max(1)) {
+            self.leave();
+            self.hold(part);
+        }
+    }
 }
 
 impl<W: Write + Drop, const N: usize> Write for Held<W, N> {
@@ -73,12 +96,21 @@ impl<W: Write + Drop, const N: usize> Write for Held<W, N> {
         if self.filled >= N {
             self.leave();
         }
-        let from = self.filled.min(N);
-        let n = buf.len().min(N - from);
-        let space = &mut self.buffer[..];
-        space[from..from + n].copy_from_slice(&buf[..n]);
-        self.filled = from + n;
-        Ok(n)
+        Ok(self.hold(buf))
+    }
+
+    // Most of what the programs write is a few bytes long.
+    fn write_all(&mut self, buf: &[u8]) -> Result<()> {
+        let from = self.filled;
+        if from <= N && buf.len() <= N - from {
+            let end = from + buf.len();
+            let space = &mut self.buffer[..];
+            space[from..end].copy_from_slice(buf);
+            self.filled = end;
+        } else {
+            self.hold_long(buf);
+        }
+        Ok(())
     }
 
     fn flush(&mut self) -> Result<()> {
