@@ -42,13 +42,18 @@ fn serve<R: Read, W: Write>(
     let _ = out.flush();
 }
 
+// The rest of what a case may lend takes room while it is served, and none before: so it stands apart.
+#[inline(never)]
+fn lend_and_serve<R: Read, W: Write>(input: &mut R, out: &mut W, c: Case, first: &mut [u8]) {
+    let mut second = space();
+    let mut output = space();
+    let mut work = space();
+    let mut lent = lend(&mut second, &mut output, &mut work);
+    serve(input, out, c, first, &mut lent);
+}
+
 // One case, if there is one; whether another may follow. A head that breaks a limit, names another call, or is cut short ends the run.
-fn step<R: Read, W: Write>(
-    input: &mut R,
-    out: &mut W,
-    first: &mut [u8],
-    lent: &mut Lent<'_>,
-) -> bool {
+fn step<R: Read, W: Write>(input: &mut R, out: &mut W, first: &mut [u8]) -> bool {
     let mut head = [0u8; HEAD];
     // An input that can't be read ends there.
     let got = input.read(&mut head).unwrap_or(0);
@@ -61,27 +66,19 @@ fn step<R: Read, W: Write>(
         return false;
     };
     let n = c.first.min(first.len());
-    serve(input, out, c, &mut first[..n], lent);
+    lend_and_serve(input, out, c, &mut first[..n]);
     true
 }
 
 // All cases. The count of them only makes the loop end; no input has so many.
-fn run(lent: &mut Lent<'_>) {
+fn main() {
     let mut out = Held::<Output, MOST_HELD>::new(Output);
     let mut first = [0u8; MOST_FIRST];
     for _ in 0..u64::MAX {
-        if !step(&mut Input, &mut out, &mut first, lent) {
+        if !step(&mut Input, &mut out, &mut first) {
             break;
         }
     }
-}
-
-fn main() {
-    let mut second = space();
-    let mut output = space();
-    let mut work = space();
-    let mut lent = lend(&mut second, &mut output, &mut work);
-    run(&mut lent);
 }
 
 #[cfg(test)]
@@ -99,13 +96,10 @@ mod tests {
         cases[33] = 1;
         let mut input = &cases[..];
         let mut out = Vec::new(rt.alloc());
-        let mut output = [0u8; 2];
-        let mut work = [0u8; 1];
-        let mut lent = lend(&mut [], &mut output, &mut work);
-        assert!(rt; step(&mut input, &mut out, &mut [], &mut lent));
+        assert!(rt; step(&mut input, &mut out, &mut []));
         assert_eq!(rt; out.as_slice(), "1 0 o a5a5 w 5a v 0\n".as_bytes());
-        assert!(rt; !step(&mut input, &mut out, &mut [], &mut lent));
-        assert!(rt; !step(&mut input, &mut out, &mut [], &mut lent));
+        assert!(rt; !step(&mut input, &mut out, &mut []));
+        assert!(rt; !step(&mut input, &mut out, &mut []));
         assert_eq!(rt;
             out.as_slice(),
             "1 0 o a5a5 w 5a v 0\nbad case\n".as_bytes()
